@@ -1,0 +1,94 @@
+use Rattle.model.specs.Records.{simpleLength}
+use borrow.Author.Tests.{lt-ltb, le-ltb, le-leb, lt-leb, eq-eqb, ne-eqb}
+use borrow.Author.Needs.{needs}
+use Rattle.model.proofs.simple_length.Statement.{statement}
+use Rattle.model.proofs.simple_length.Tie as tie
+use Rattle.model.proofs.simple_length.Reads as reads
+use Rattle.model.proofs.simple_length.Lts as lts
+
+-- src/lib.rt:98:25
+enum-known-s : tie.Need-enum-known-s
+enum-known-s c = search needs
+
+-- src/lib.rt:100:13
+enum-known-s-2 : tie.Need-enum-known-s-2
+enum-known-s-2 c = search needs
+
+-- src/lib.rt:106:13
+enum-known-s-3 : tie.Need-enum-known-s-3
+enum-known-s-3 c = search needs
+
+-- src/lib.rt:111:24
+enum-known-s-4 : tie.Need-enum-known-s-4
+enum-known-s-4 c = search needs
+
+-- src/lib.rt:113:13
+enum-known-s-5 : tie.Need-enum-known-s-5
+enum-known-s-5 c = search needs
+
+-- src/lib.rt:117:25
+enum-told : tie.Need-enum-told
+enum-told c = search needs
+
+-- src/lib.rt:118:26
+enum-known-s-6 : tie.Need-enum-known-s-6
+enum-known-s-6 c = search needs
+
+-- src/lib.rt:119:27
+enum-known-s-7 : tie.Need-enum-known-s-7
+enum-known-s-7 c = search needs
+
+-- src/lib.rt:94:1
+returns : tie.Need-returns
+returns c = search needs
+
+-- src/lib.rt:94:1
+returns-2 : tie.Need-returns-2
+returns-2 c =
+    simp (c .before .s2 .given .1, lt-ltb, le-ltb, le-leb, lt-leb, eq-eqb, ne-eqb)
+
+-- src/lib.rt:94:1
+returns-3 : tie.Need-returns-3
+returns-3 c =
+    simp (c .before .s3 .given .1, lt-ltb, le-ltb, le-leb, lt-leb, eq-eqb, ne-eqb)
+
+-- src/lib.rt:94:1
+returns-4 : tie.Need-returns-4
+returns-4 c = search needs
+
+-- src/lib.rt:94:1
+returns-5 : tie.Need-returns-5
+returns-5 c = search needs
+
+-- src/lib.rt:94:1
+returns-6 : tie.Need-returns-6
+returns-6 c = search needs
+
+-- src/lib.rt:94:1
+returns-7 : tie.Need-returns-7
+returns-7 c = search needs
+
+-- src/lib.rt:94:1
+returns-8 : tie.Need-returns-8
+returns-8 c = search needs
+
+pub simple-length-spec : {M : Type 1} → statement M
+simple-length-spec =
+    tie.close
+    (tie.spec
+    enum-known-s
+    enum-known-s-2
+    enum-known-s-3
+    enum-known-s-4
+    enum-known-s-5
+    enum-told
+    enum-known-s-6
+    enum-known-s-7
+    returns
+    returns-2
+    returns-3
+    returns-4
+    returns-5
+    returns-6
+    returns-7
+    returns-8)

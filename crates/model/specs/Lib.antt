@@ -1,0 +1,12 @@
+pub mod Tests
+pub mod Levels
+pub mod Packing
+pub mod Records
+pub mod Table
+pub mod Blocks
+pub mod Rules
+pub mod Monotone
+pub mod Flow
+pub mod Places
+pub mod Faults
+pub mod Walk

@@ -1,0 +1,132 @@
+-- Every rule is monotone: a lower environment types wherever a higher one does, and ends lower.
+use Prim.Native.Nat.{ℕ, _≤_, _<_, max, min}
+use native.Mathlib.Omega.{arith}
+use native.Mathlib.Nat.{le-refl}
+use mathlib.Core.Path.{_≡_, refl, subst}
+use mathlib.Core.Bool.{Bool, true, false}
+use lib.ListN.{length}
+use lib.Dec.{T, leb, ltb, leb→le, le→leb}
+use Rattle.model.specs.Tests.{pick, same, test}
+use Rattle.model.specs.Levels.{Env, Covers, Within, join, within-refl, within-trans, join-left, join-right, join-least}
+use Rattle.model.specs.Records.{SimpleFits, Fits}
+use Rattle.model.specs.Packing.{envOf}
+use Rattle.model.specs.Table.{Table, arrayCount}
+use Rattle.model.specs.Rules.{kill, guardStatus, settle, written, guarded, beside, Needs, after, NeedsOf, afterOf, typing}
+use Rattle.model.specs.Blocks.{Types, done, one, branch, loop}
+use Rattle.model.specs.declared.Status.{Status}
+use Rattle.model.specs.declared.Status.the-variants.{Unknown, Updated, Outdated}
+use Rattle.model.specs.declared.Simple.{Simple}
+use Rattle.model.specs.declared.Simple.the-variants.{Const, Op, Select, Load, Store, Init, Update, Protect}
+use Rattle.model.specs.declared.Record.{Record}
+use Rattle.model.specs.declared.Record.the-variants.{Do, Call, If, Else, Endif, While, Endwhile, Return}
+
+kill-mono : (d : ℕ) (s u : Status) → Covers s u → Covers (kill d s) (kill d u)
+unfolding kill
+kill-mono d s Unknown h = tt
+kill-mono d s Updated h = rw h
+kill-mono d s (Outdated r b) h = rw h (same r d (λ x. Covers (pick x Unknown (Outdated r b)) (pick x Unknown (Outdated r b))) (λ _. tt) (λ _. refl))
+
+guard-mono : (r : ℕ) (b : Bool) (s u : Status) → Covers s u → Covers (guardStatus r b s) (guardStatus r b u)
+unfolding guardStatus
+guard-mono r b s Unknown h = tt
+guard-mono r b s Updated h = rw h
+guard-mono r b s (Outdated q c) h = tt
+
+-- a settled level is 0, or the level itself, which is then secret
+pub settle-ind : (l : ℕ) (P : ℕ → Type 0) → (l ≤ 1 → P 0) → (2 ≤ l → P l) → P (settle l)
+unfolding settle
+settle-ind l P f g = test (leb l 1) (λ b. P (pick b 0 l)) (λ e. f (leb→le l 1 (rw e tt))) (λ e. g (omega (arith, over e)))
+  where
+    over : leb l 1 ≡ false → (l ≤ 1 → ⊥)
+    over e h = subst T e (le→leb l 1 h)
+
+settle-mono : (l m : ℕ) → l ≤ m → settle l ≤ settle m
+settle-mono l m h = settle-ind l (λ x. x ≤ settle m) (λ p. omega arith) (λ p. settle-ind m (λ y. l ≤ y) (λ q. omega arith) (λ q. h))
+
+beside-mono : (n l m b v w : ℕ) → l ≤ m → v ≤ w → beside n l b v ≤ beside n m b w
+unfolding beside
+beside-mono n l m b v w p q = test (ltb b n) (λ x. pick x (max v (min 1 l)) v ≤ pick x (max w (min 1 m)) w) (λ _. omega arith) (λ _. q)
+
+module _ (n m : ℕ) (E F : Env) (w : Within n m E F) where
+  written-mono : (d l k : ℕ) → l ≤ k → Within n m (written E d l) (written F d k)
+  written-mono d l k h = record {
+    status = kill-mono d (E .status) (F .status) (w .status);
+    regs = λ i p. same i d (λ b. pick b l (E .regs i) ≤ pick b k (F .regs i)) (λ _. h) (λ _. w .regs i p);
+    arrays = w .arrays }
+
+  guarded-mono : (r : ℕ) (s : Bool) → Within n m (guarded E r s) (guarded F r s)
+  guarded-mono r s = record { status = guard-mono r s (E .status) (F .status) (w .status); regs = w .regs; arrays = w .arrays }
+
+  pub public-down : (i : ℕ) → i < n → F .regs i ≡ 0 → E .regs i ≡ 0
+  public-down i l h = omega (arith, w .regs i l)
+
+  pub needs-down : (i : Simple) → SimpleFits n m i → Needs i F → Needs i E
+  needs-down (Const d v) f h = tt
+  needs-down (Op d o l r) f h = tt
+  needs-down (Select d c y k) f h = tt
+  needs-down (Load d a i) f h = public-down i (f .2) h
+  needs-down (Store a i s) f h = public-down i (f .1) h
+  needs-down Init f h = tt
+  needs-down (Update r s) f h = subst (Covers (E .status)) h (w .status)
+  needs-down (Protect d s) f h = subst (Covers (E .status)) h (w .status)
+
+  pub after-mono : (i : Simple) → SimpleFits n m i → Within n m (after m i E) (after m i F)
+  after-mono (Const d v) f = written-mono d 0 0 (le-refl 0)
+  after-mono (Op d o l r) f = written-mono d _ _ (omega (arith, w .regs l (f .2), w .regs r (f .3)))
+  after-mono (Select d c y k) f = written-mono d _ _ (omega (arith, w .regs c (f .1), w .regs y (f .2), w .regs k (f .3)))
+  after-mono (Load d a i) f = written-mono d _ _ (omega (arith, w .arrays a (f .1)))
+  after-mono (Store a i s) f = record {
+    status = w .status; regs = w .regs;
+    arrays = λ b l. same b a (λ x. pick x (max (E .arrays a) (E .regs s)) (beside m (E .regs s) b (E .arrays b)) ≤ pick x (max (F .arrays a) (F .regs s)) (beside m (F .regs s) b (F .arrays b)))
+      (λ _. omega (arith, w .arrays a (f .0), w .regs s (f .2))) (λ _. beside-mono m (E .regs s) (F .regs s) b (E .arrays b) (F .arrays b) (w .regs s (f .2)) (w .arrays b l)) }
+  after-mono Init f = record { status = refl; regs = λ i l. settle-mono (E .regs i) (F .regs i) (w .regs i l); arrays = w .arrays }
+  after-mono (Update r s) f = record { status = refl; regs = w .regs; arrays = w .arrays }
+  after-mono (Protect d s) f = record {
+    status = refl;
+    regs = λ i l. same i d (λ b. pick b (settle (E .regs s)) (E .regs i) ≤ pick b (settle (F .regs s)) (F .regs i)) (λ _. settle-mono (E .regs s) (F .regs s) (w .regs s (f .1))) (λ _. w .regs i l);
+    arrays = w .arrays }
+
+join-mono : (n m : ℕ) (E E′ F F′ : Env) → Within n m E F → Within n m E′ F′ → Within n m (join E E′) (join F F′)
+join-mono n m E E′ F F′ w v =
+    join-least n m E E′ (join F F′) (within-trans n m E F (join F F′) w (join-left n m F F′)) (within-trans n m E′ F′ (join F F′) v (join-right n m F F′))
+
+module _ (t : Table) where
+  abbrev In : Env → Env → Type 0
+  In = Within (t .registers) (arrayCount t)
+
+  pub needs-of-down : (i : Record) (E F : Env) → Fits (t .registers) (arrayCount t) i → In E F → NeedsOf t i F → NeedsOf t i E
+  needs-of-down (Do s) E F f w h = needs-down (t .registers) (arrayCount t) E F w s f h
+  needs-of-down (Call g m) E F f w h = within-trans (t .registers) (arrayCount t) E F (t .enter g) w h
+  needs-of-down (If r e) E F f w h = h
+  needs-of-down (Else n) E F f w h = h
+  needs-of-down Endif E F f w h = h
+  needs-of-down (While r e L) E F f w h = h
+  needs-of-down (Endwhile e) E F f w h = h
+  needs-of-down Return E F f w h = h
+
+  pub after-of-mono : (i : Record) (E F : Env) → Fits (t .registers) (arrayCount t) i → In E F → In (afterOf t i E) (afterOf t i F)
+  after-of-mono (Do s) E F f w = after-mono (t .registers) (arrayCount t) E F w s f
+  after-of-mono (Call g m) E F f w = within-refl (t .registers) (arrayCount t) _
+  after-of-mono (If r e) E F f w = w
+  after-of-mono (Else n) E F f w = w
+  after-of-mono Endif E F f w = w
+  after-of-mono (While r e L) E F f w = w
+  after-of-mono (Endwhile e) E F f w = w
+  after-of-mono Return E F f w = w
+
+  fits-at : (p : ℕ) (i : Record) → t .rec p ≡ i → Fits (t .registers) (arrayCount t) i
+  fits-at p i e = subst (Fits (t .registers) (arrayCount t)) e (t .fits p)
+
+  -- what types from F types from any E within it, and ends within where F ends
+  pub types-mono : {g p q : ℕ} {F F′ : Env} (E : Env) → In E F → Types t (typing t) g p F q F′ → (E′ : Env) × Types t (typing t) g p E q E′ × In E′ F′
+  types-mono E w done = (E, done, w)
+  types-mono E w (one {p = p} {E = F} i n d) =
+      let x = types-mono (afterOf t (t .rec p) E) (after-of-mono (t .rec p) E F (t .fits p) w) d in
+      (x .0, one i (needs-of-down (t .rec p) E F (t .fits p) w n) (x .1), x .2)
+  types-mono E w (branch {p = p} {e = e} {r = r} {E = F} {E₁ = F₁} {E₂ = F₂} i g a j b k c) =
+      let x = types-mono (guarded E r true) (guarded-mono (t .registers) (arrayCount t) E F w r true) a in
+      let y = types-mono (guarded E r false) (guarded-mono (t .registers) (arrayCount t) E F w r false) b in
+      let z = types-mono (join (x .0) (y .0)) (join-mono (t .registers) (arrayCount t) (x .0) (y .0) F₁ F₂ (x .2) (y .2)) c in
+      (z .0, branch i (public-down (t .registers) (arrayCount t) E F w r (fits-at p (If r e) i) g) (x .1) j (y .1) k (z .1), z .2)
+  types-mono E w (loop {E = F} {F = F′} {L = L} i v g a j u c) =
+      (F′, loop i (within-trans (t .registers) (arrayCount t) E F (envOf L) w v) g a j u c, within-refl (t .registers) (arrayCount t) F′)

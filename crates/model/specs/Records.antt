@@ -1,0 +1,92 @@
+-- Document 01, "Table layout": the records of code, decoded.
+use Prim.Native.Nat.{ℕ, _≤_, _<_}
+use native.Mathlib.Omega.{arith}
+use Rattle.model.specs.declared.Simple.{Simple}
+use Rattle.model.specs.declared.Simple.the-variants.{Const, Op, Select, Load, Store, Init, Update, Protect}
+use Rattle.model.specs.declared.Record.{Record}
+use Rattle.model.specs.declared.Record.the-variants.{Do, Call, If, Else, Endif, While, Endwhile, Return}
+
+-- bytes of a record, the kind byte counted
+abbrev pub simpleLength : Simple → ℕ
+simpleLength (Const d v) = 6
+simpleLength (Op d o l r) = 5
+simpleLength (Select d c y n) = 5
+simpleLength (Load d a i) = 4
+simpleLength (Store a i s) = 4
+simpleLength Init = 1
+simpleLength (Update r s) = 3
+simpleLength (Protect d s) = 3
+
+abbrev pub lengthOf : Record → ℕ
+lengthOf (Do s) = simpleLength s
+lengthOf (Call f m) = 3
+lengthOf (If r e) = 4
+lengthOf (Else n) = 3
+lengthOf Endif = 1
+lengthOf (While r e L) = 11
+lengthOf (Endwhile w) = 3
+lengthOf Return = 1
+
+-- a record has at least its kind byte
+simple-pos : (s : Simple) → 1 ≤ simpleLength s
+simple-pos (Const d v) = omega arith
+simple-pos (Op d o l r) = omega arith
+simple-pos (Select d c y n) = omega arith
+simple-pos (Load d a i) = omega arith
+simple-pos (Store a i s) = omega arith
+simple-pos Init = omega arith
+simple-pos (Update r s) = omega arith
+simple-pos (Protect d s) = omega arith
+
+pub length-pos : (i : Record) → 1 ≤ lengthOf i
+length-pos (Do s) = simple-pos s
+length-pos (Call f m) = omega arith
+length-pos (If r e) = omega arith
+length-pos (Else n) = omega arith
+length-pos Endif = omega arith
+length-pos (While r e L) = omega arith
+length-pos (Endwhile w) = omega arith
+length-pos Return = omega arith
+
+-- a record that opens or closes no block
+abbrev pub Single : Record → Type 0
+Single (Do s) = Unit {0}
+Single (Call f m) = Unit {0}
+Single (If r e) = ⊥
+Single (Else n) = ⊥
+Single Endif = ⊥
+Single (While r e L) = ⊥
+Single (Endwhile w) = ⊥
+Single Return = ⊥
+
+-- a record that closes a block, or the function
+abbrev pub Closes : Record → Type 0
+Closes (Do s) = ⊥
+Closes (Call f m) = ⊥
+Closes (If r e) = ⊥
+Closes (Else n) = Unit {0}
+Closes Endif = Unit {0}
+Closes (While r e L) = ⊥
+Closes (Endwhile w) = Unit {0}
+Closes Return = Unit {0}
+
+-- fields in range, for n registers, m arrays (fault 4)
+abbrev pub SimpleFits : ℕ → ℕ → Simple → Type 0
+SimpleFits n m (Const d v) = d < n
+SimpleFits n m (Op d o l r) = (d < n) × (o < 8) × (l < n) × (r < n)
+SimpleFits n m (Select d c y k) = (d < n) × (c < n) × (y < n) × (k < n)
+SimpleFits n m (Load d a i) = (d < n) × (a < m) × (i < n)
+SimpleFits n m (Store a i s) = (a < m) × (i < n) × (s < n)
+SimpleFits n m Init = Unit {0}
+SimpleFits n m (Update r s) = r < n
+SimpleFits n m (Protect d s) = (d < n) × (s < n)
+
+abbrev pub Fits : ℕ → ℕ → Record → Type 0
+Fits n m (Do s) = SimpleFits n m s
+Fits n m (Call f k) = Unit {0}
+Fits n m (If r e) = r < n
+Fits n m (Else e) = Unit {0}
+Fits n m Endif = Unit {0}
+Fits n m (While r e L) = r < n
+Fits n m (Endwhile w) = Unit {0}
+Fits n m Return = Unit {0}

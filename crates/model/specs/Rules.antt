@@ -1,0 +1,129 @@
+-- Document 01, "Typing, record by record". IF, WHILE and RETURN stand in Blocks.
+use Prim.Native.Nat.{ℕ, _<_, max, min}
+use mathlib.Core.Path.{_≡_}
+use mathlib.Core.Bool.{Bool, true, false}
+use lib.ListN.{length}
+use lib.Dec.{eqb, leb, ltb}
+use Rattle.model.specs.Tests.{pick, put}
+use Rattle.model.specs.Levels.{Env, Within, join, within-refl, within-trans, join-left, join-right}
+use Rattle.model.specs.Packing.{envOf}
+use Rattle.model.specs.Table.{Table, arrayCount}
+use Rattle.model.specs.Blocks.{Rules, Every}
+use Rattle.model.specs.declared.Status.{Status}
+use Rattle.model.specs.declared.Status.the-variants.{Unknown, Updated, Outdated}
+use Rattle.model.specs.declared.Simple.{Simple}
+use Rattle.model.specs.declared.Simple.the-variants.{Const, Op, Select, Load, Store, Init, Update, Protect}
+use Rattle.model.specs.declared.Record.{Record}
+use Rattle.model.specs.declared.Record.the-variants.{Do, Call, If, Else, Endif, While, Endwhile, Return}
+
+-- "any other write to r turns outdated(r, s) into unknown"
+unfoldable pub kill : ℕ → Status → Status
+kill d Unknown = Unknown
+kill d Updated = Updated
+kill d (Outdated r s) = pick (eqb r d) Unknown (Outdated r s)
+
+-- "if the status is updated, the first block starts outdated(r, 1), the second outdated(r, 0); else both unknown"
+unfoldable pub guardStatus : ℕ → Bool → Status → Status
+guardStatus r s Unknown = Unknown
+guardStatus r s Updated = Outdated r s
+guardStatus r s (Outdated q b) = Unknown
+
+-- "updated if the mark is 1 and the out status is updated, else unknown"
+unfoldable pub callStatus : Bool → Status → Status
+callStatus true Updated = Updated
+callStatus true Unknown = Unknown
+callStatus true (Outdated r s) = Unknown
+callStatus false s = Unknown
+
+-- a transient level becomes public; a secret one stays
+unfoldable pub settle : ℕ → ℕ
+settle l = pick (leb l 1) 0 l
+
+-- beside an array into which level l is stored: array b of m, at level v. A public one becomes transient if l is not public
+unfoldable pub beside : ℕ → ℕ → ℕ → ℕ → ℕ
+beside m l b v = pick (ltb b m) (max v (min 1 l)) v
+
+-- register d is written, at level l
+abbrev pub written : Env → ℕ → ℕ → Env
+written E d l = record { status = kill d (E .status); regs = put (E .regs) d l; arrays = E .arrays }
+
+-- entering a block when register r is not zero (true) or zero (false)
+abbrev pub guarded : Env → ℕ → Bool → Env
+guarded E r s = record { status = guardStatus r s (E .status); regs = E .regs; arrays = E .arrays }
+
+-- what a simple record asks of the environment
+abbrev pub Needs : Simple → Env → Type 0
+Needs (Const d v) E = Unit {0}
+Needs (Op d o l r) E = Unit {0}
+Needs (Select d c y n) E = Unit {0}
+Needs (Load d a i) E = E .regs i ≡ 0
+Needs (Store a i s) E = E .regs i ≡ 0
+Needs Init E = Unit {0}
+Needs (Update r s) E = E .status ≡ Outdated r s
+Needs (Protect d s) E = E .status ≡ Updated
+
+-- the environment after it, in a table of m arrays
+abbrev pub after : ℕ → Simple → Env → Env
+after m (Const d v) E = written E d 0
+after m (Op d o l r) E = written E d (max (E .regs l) (E .regs r))
+after m (Select d c y n) E = written E d (max (E .regs c) (max (E .regs y) (E .regs n)))
+after m (Load d a i) E = written E d (max 1 (E .arrays a))
+after m (Store a i s) E = record {
+  status = E .status; regs = E .regs;
+  arrays = put (λ b. beside m (E .regs s) b (E .arrays b)) a (max (E .arrays a) (E .regs s)) }
+after m Init E = record { status = Updated; regs = λ i. settle (E .regs i); arrays = E .arrays }
+after m (Update r s) E = record { status = Updated; regs = E .regs; arrays = E .arrays }
+after m (Protect d s) E = record { status = Updated; regs = put (E .regs) d (settle (E .regs s)); arrays = E .arrays }
+
+-- after a CALL: the callee's out levels. (The environment before it does not count; order 8 will use it.)
+abbrev pub returned : Env → Bool → Env → Env
+returned out mark E = record { status = callStatus mark (out .status); regs = out .regs; arrays = out .arrays }
+
+module _ (t : Table) where
+  abbrev pub NeedsOf : Record → Env → Type 0
+  NeedsOf (Do s) E = Needs s E
+  NeedsOf (Call f m) E = Within (t .registers) (arrayCount t) E (t .enter f)
+  NeedsOf (If r e) E = Unit {0}
+  NeedsOf (Else n) E = Unit {0}
+  NeedsOf Endif E = Unit {0}
+  NeedsOf (While r e L) E = Unit {0}
+  NeedsOf (Endwhile w) E = Unit {0}
+  NeedsOf Return E = Unit {0}
+
+  abbrev pub afterOf : Record → Env → Env
+  afterOf (Do s) E = after (arrayCount t) s E
+  afterOf (Call f m) E = returned (t .leave f) m E
+  afterOf (If r e) E = E
+  afterOf (Else n) E = E
+  afterOf Endif E = E
+  afterOf (While r e L) E = E
+  afterOf (Endwhile w) E = E
+  afterOf Return E = E
+
+-- document 01's rules
+abbrev pub typing : Table → Rules
+typing t = record {
+  Env = Env; Within = Within (t .registers) (arrayCount t);
+  within-refl = within-refl (t .registers) (arrayCount t); within-trans = within-trans (t .registers) (arrayCount t);
+  join = join; join-left = join-left (t .registers) (arrayCount t); join-right = join-right (t .registers) (arrayCount t);
+  Needs = λ g. NeedsOf t; after = afterOf t; Public = λ E r. E .regs r ≡ 0; guarded = guarded; loop = envOf; enter = t .enter; leave = t .leave }
+
+-- the rules type every function of the table
+abbrev pub Typed : Table → Type 0
+Typed t = Every t (typing t)
+
+-- reading's rules: a CALL is of a lower function (fault 7)
+abbrev pub Lower : ℕ → Record → Type 0
+Lower g (Do s) = Unit {0}
+Lower g (Call f m) = f < g
+Lower g (If r e) = Unit {0}
+Lower g (Else n) = Unit {0}
+Lower g Endif = Unit {0}
+Lower g (While r e L) = Unit {0}
+Lower g (Endwhile w) = Unit {0}
+Lower g Return = Unit {0}
+
+abbrev pub reading : Rules
+reading = record {
+  Env = Unit {0}; Within = λ _ _. Unit {0}; within-refl = λ _. tt; within-trans = λ _ _ _ _ _. tt; join = λ _ _. tt; join-left = λ _ _. tt; join-right = λ _ _. tt;
+  Needs = λ g i _. Lower g i; after = λ _ _. tt; Public = λ _ _. Unit {0}; guarded = λ _ _ _. tt; loop = λ _. tt; enter = λ _. tt; leave = λ _. tt }

@@ -1,0 +1,28 @@
+-- A table as its reader sees it: the record at each place, the sizes, the signatures, the call sites.
+use Prim.Native.Nat.{ℕ, _-_}
+use mathlib.Core.Bool.{Bool}
+use mathlib.Core.List.{List}
+use mathlib.Core.Option.{Option}
+use lib.ListN.{length}
+use Rattle.model.specs.Levels.{Env}
+use Rattle.model.specs.Records.{Fits}
+use Rattle.model.specs.declared.Record.{Record}
+
+pub record Table : Type 0 where
+  pub rec : ℕ → Record                   -- the record at a place
+  pub registers : ℕ
+  pub words : List ℕ                     -- the words of each array
+  pub fits : (p : ℕ) → Fits registers (length words) (rec p)
+  pub functions : ℕ
+  pub start : ℕ → ℕ                      -- of a function: its first place
+  pub ret : ℕ → ℕ                        -- of a function: its RETURN
+  pub enter : ℕ → Env                    -- of a function: its in-environment
+  pub leave : ℕ → Env                    -- of a function: its out-environment
+  pub site : ℕ → ℕ → Option Bool         -- of a function and a place: the mark, if the place follows a CALL of the function
+
+-- the last function
+abbrev pub entry : Table → ℕ
+entry t = t .functions - 1
+
+abbrev pub arrayCount : Table → ℕ
+arrayCount t = length (t .words)

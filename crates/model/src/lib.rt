@@ -1,0 +1,137 @@
+// The words of document 01 that every crate shares: statuses, packed environments, records.
+// What they mean stands in specs/, in 01's order; the theorems over them too.
+ghost use mathlib.Core.Path.{_≡_};
+ghost use Prim.Native.Nat.{_<_};
+ghost use Rattle.model.specs.Records.{lengthOf, simpleLength};
+
+// The numbers of the sizes record.
+pub struct Sizes {
+    pub registers: u8,
+    pub arrays: u8,
+    pub functions: u8,
+}
+
+// The flag status. Outdated(r, true) is 01's outdated(r, 1), "r is not zero".
+pub enum Status {
+    Unknown,
+    Updated,
+    Outdated(u8, bool),
+}
+
+// An environment as it stands in a table: status byte, two bits a register, two bits an array.
+pub struct Packed {
+    pub status: u8,
+    pub registers: u32,
+    pub arrays: u32,
+}
+
+// A record that goes on to the next one and touches registers, memory and flag alone.
+pub enum Simple {
+    Const {
+        dest: u8,
+        value: u32,
+    },
+    Op {
+        dest: u8,
+        op: u8,
+        left: u8,
+        right: u8,
+    },
+    Select {
+        dest: u8,
+        cond: u8,
+        yes: u8,
+        no: u8,
+    },
+    Load {
+        dest: u8,
+        array: u8,
+        index: u8,
+    },
+    Store {
+        array: u8,
+        index: u8,
+        source: u8,
+    },
+    Init,
+    Update {
+        register: u8,
+        sense: bool,
+    },
+    Protect {
+        dest: u8,
+        source: u8,
+    },
+}
+
+// A decoded record of code.
+pub enum Record {
+    Do(Simple),
+    Call {
+        function: u8,
+        mark: bool,
+    },
+    If {
+        register: u8,
+        to: usize,
+    },
+    Else {
+        to: usize,
+    },
+    Endif,
+    While {
+        register: u8,
+        to: usize,
+        env: Packed,
+    },
+    Endwhile {
+        to: usize,
+    },
+    Return,
+}
+
+// The bytes of a simple record, the kind byte counted.
+pub fn simple_length(s: Simple) -> usize
+    ensures { λ r. ⌜ r ≡ simpleLength s ⌝ }
+{
+    match s {
+        Simple::Const { dest, value } => 6,
+        Simple::Op {
+            dest,
+            op,
+            left,
+            right,
+        } => 5,
+        Simple::Select {
+            dest,
+            cond,
+            yes,
+            no,
+        } => 5,
+        Simple::Load { dest, array, index } => 4,
+        Simple::Store {
+            array,
+            index,
+            source,
+        } => 4,
+        Simple::Init => 1,
+        Simple::Update { register, sense } => 3,
+        Simple::Protect { dest, source } => 3,
+    }
+}
+
+// The bytes of a record of code, the kind byte counted.
+pub fn length_of(r: Record) -> usize
+    ensures { λ n. ⌜ n ≡ lengthOf r ⌝ }
+{
+    match r {
+        Record::Do(s) => simple_length(s),
+        Record::Call { function, mark } => 3,
+        Record::If { register, to } => 4,
+        Record::Else { to } => 3,
+        Record::Endif => 1,
+        Record::While { register, to, env } => 11,
+        Record::Endwhile { to } => 3,
+        Record::Return => 1,
+    }
+}
