@@ -68,13 +68,17 @@ module _ (n m : ℕ) where
   within-trans E F G p q = record {
     status = covers-trans (E .status) (F .status) (G .status) (p .status) (q .status);
     regs = λ i l. le-trans (p .regs i l) (q .regs i l);
-    arrays = λ a l. le-trans (p .arrays a l) (q .arrays a l) }
+    arrays = λ a l. le-trans (p .arrays a l) (q .arrays a l);
+  }
 
   -- environments within each other agree: status, registers, arrays
   pub within-antisym : (E F : Env) → Within n m E F → Within n m F E
-    → (E .status ≡ F .status) × ((i : ℕ) → i < n → E .regs i ≡ F .regs i) × ((a : ℕ) → a < m → E .arrays a ≡ F .arrays a)
-  within-antisym E F p q = (covers-antisym (E .status) (F .status) (p .status) (q .status),
-    λ i l. omega (arith, p .regs i l, q .regs i l), λ a l. omega (arith, p .arrays a l, q .arrays a l))
+      → (E .status ≡ F .status) × ((i : ℕ) → i < n → E .regs i ≡ F .regs i) × ((a : ℕ) → a < m → E .arrays a ≡ F .arrays a)
+  within-antisym E F p q = (
+    covers-antisym (E .status) (F .status) (p .status) (q .status),
+    λ i l. omega (arith, p .regs i l, q .regs i l),
+    λ a l. omega (arith, p .arrays a l, q .arrays a l),
+  )
 
 -- ---- the join is the least upper bound
 outdated-same : (r q : ℕ) (b c : Bool) (P : Status → Type 0) → P Unknown → ((r ≡ q) → (b ≡ c) → P (Outdated r b)) → P (pick (eqb r q && Bool·beq b c) (Outdated r b) Unknown)
@@ -126,7 +130,8 @@ module _ (n m : ℕ) where
   join-least E F G p q = record {
     status = covers-least (E .status) (F .status) (G .status) (p .status) (q .status);
     regs = λ i l. omega (arith, p .regs i l, q .regs i l);
-    arrays = λ a l. omega (arith, p .arrays a l, q .arrays a l) }
+    arrays = λ a l. omega (arith, p .arrays a l, q .arrays a l);
+  }
 
 -- ---- within, as a test
 unfoldable pub sameStatus : Status → Status → Bool
@@ -190,7 +195,7 @@ pub within-is : (n m : ℕ) (E F : Env) → Decides (Within n m E F) (within n m
 unfolding within
 within-is n m E F =
     let d = both (covers (E .status) (F .status)) (all (levelsWithin n (E .regs) (F .regs) ∷ levelsWithin m (E .arrays) (F .arrays) ∷ [])) (covers-is (E .status) (F .status))
-      (both (levelsWithin n (E .regs) (F .regs)) (all (levelsWithin m (E .arrays) (F .arrays) ∷ [])) (levels-within-is n (E .regs) (F .regs)) (alone (levelsWithin m (E .arrays) (F .arrays)) (levels-within-is m (E .arrays) (F .arrays)))) in
+    (both (levelsWithin n (E .regs) (F .regs)) (all (levelsWithin m (E .arrays) (F .arrays) ∷ [])) (levels-within-is n (E .regs) (F .regs)) (alone (levelsWithin m (E .arrays) (F .arrays)) (levels-within-is m (E .arrays) (F .arrays)))) in
     (λ h. let w = d .0 h in record { status = w .0; regs = w .1 .0; arrays = w .1 .1 }, λ w. d .1 (w .status, (w .regs, w .arrays)))
   where
     alone : {A : Type 0} (b : Bool) → Decides A b → Decides A (all (b ∷ []))

@@ -10,3 +10,7 @@ pub mod Flow
 pub mod Places
 pub mod Faults
 pub mod Walk
+pub mod Sites
+pub mod Passes
+pub mod Decide
+pub mod Typing

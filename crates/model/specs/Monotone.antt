@@ -52,7 +52,8 @@ module _ (n m : ℕ) (E F : Env) (w : Within n m E F) where
   written-mono d l k h = record {
     status = kill-mono d (E .status) (F .status) (w .status);
     regs = λ i p. same i d (λ b. pick b l (E .regs i) ≤ pick b k (F .regs i)) (λ _. h) (λ _. w .regs i p);
-    arrays = w .arrays }
+    arrays = w .arrays;
+  }
 
   guarded-mono : (r : ℕ) (s : Bool) → Within n m (guarded E r s) (guarded F r s)
   guarded-mono r s = record { status = guard-mono r s (E .status) (F .status) (w .status); regs = w .regs; arrays = w .arrays }
@@ -76,15 +77,18 @@ module _ (n m : ℕ) (E F : Env) (w : Within n m E F) where
   after-mono (Select d c y k) f = written-mono d _ _ (omega (arith, w .regs c (f .1), w .regs y (f .2), w .regs k (f .3)))
   after-mono (Load d a i) f = written-mono d _ _ (omega (arith, w .arrays a (f .1)))
   after-mono (Store a i s) f = record {
-    status = w .status; regs = w .regs;
+    status = w .status;
+    regs = w .regs;
     arrays = λ b l. same b a (λ x. pick x (max (E .arrays a) (E .regs s)) (beside m (E .regs s) b (E .arrays b)) ≤ pick x (max (F .arrays a) (F .regs s)) (beside m (F .regs s) b (F .arrays b)))
-      (λ _. omega (arith, w .arrays a (f .0), w .regs s (f .2))) (λ _. beside-mono m (E .regs s) (F .regs s) b (E .arrays b) (F .arrays b) (w .regs s (f .2)) (w .arrays b l)) }
+        (λ _. omega (arith, w .arrays a (f .0), w .regs s (f .2))) (λ _. beside-mono m (E .regs s) (F .regs s) b (E .arrays b) (F .arrays b) (w .regs s (f .2)) (w .arrays b l));
+  }
   after-mono Init f = record { status = refl; regs = λ i l. settle-mono (E .regs i) (F .regs i) (w .regs i l); arrays = w .arrays }
   after-mono (Update r s) f = record { status = refl; regs = w .regs; arrays = w .arrays }
   after-mono (Protect d s) f = record {
     status = refl;
     regs = λ i l. same i d (λ b. pick b (settle (E .regs s)) (E .regs i) ≤ pick b (settle (F .regs s)) (F .regs i)) (λ _. settle-mono (E .regs s) (F .regs s) (w .regs s (f .1))) (λ _. w .regs i l);
-    arrays = w .arrays }
+    arrays = w .arrays;
+  }
 
 join-mono : (n m : ℕ) (E E′ F F′ : Env) → Within n m E F → Within n m E′ F′ → Within n m (join E E′) (join F F′)
 join-mono n m E E′ F F′ w v =

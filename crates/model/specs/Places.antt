@@ -107,9 +107,14 @@ module _ (t : Table) (R : Rules) where
   pub each : (P : ℕ → R .Env → Type 0) {g p q : ℕ} {E F : R .Env} (d : Types t R g p E q F) → ((c : ℕ) (G : R .Env) → Log d c G → P c G) → All P d
   each P done f = tt
   each P (one {p = p} {E = E} s n d) f = (f p E (inl (refl, refl)), each P d (λ c G l. f c G (inr l)))
-  each P (branch {p = p} {e = e} {n = n} {E = E} {E₁ = E₁} {E₂ = E₂} i g a j b k z) f =
-      (f p E (inl (refl, refl)), each P a (λ c G l. f c G (inr (inl l))), f e E₁ (inr (inr (inl (refl, refl)))),
-       each P b (λ c G l. f c G (inr (inr (inr (inl l))))), f n E₂ (inr (inr (inr (inr (inl (refl, refl)))))), each P z (λ c G l. f c G (inr (inr (inr (inr (inr l)))))))
+  each P (branch {p = p} {e = e} {n = n} {E = E} {E₁ = E₁} {E₂ = E₂} i g a j b k z) f = (
+    f p E (inl (refl, refl)),
+    each P a (λ c G l. f c G (inr (inl l))),
+    f e E₁ (inr (inr (inl (refl, refl)))),
+    each P b (λ c G l. f c G (inr (inr (inr (inl l))))),
+    f n E₂ (inr (inr (inr (inr (inl (refl, refl)))))),
+    each P z (λ c G l. f c G (inr (inr (inr (inr (inr l)))))),
+  )
   each P (loop {p = p} {e = e} {E₁ = E₁} {L = L} i v g a j u z) f =
       (f p (R .loop L) (inl (refl, refl)), each P a (λ c G l. f c G (inr (inl l))), f e E₁ (inr (inr (inl (refl, refl)))), each P z (λ c G l. f c G (inr (inr (inr l)))))
 
@@ -154,9 +159,14 @@ module _ (t : Table) (R : Rules) where
       let in₅ : Chain t p (n + 1) = chain-trans t in₄ (on (past t n Endif k stay)) in
       let out₄ : Chain t n q = on (past t n Endif k (spans z)) in
       let out₃ : Chain t (e + 3) q = chain-trans t (spans b) out₄ in
-      let out₂ : Chain t e q = on (past t e (Else n) j out₃) in
-      ((stay, past t p (If r e) i (chain-trans t (spans a) out₂)), inner a in₁ out₂ (between a), (in₂, past t e (Else n) j out₃),
-       inner b in₃ out₄ (between b), (in₄, past t n Endif k (spans z)), inner z in₅ stay (between z))
+      let out₂ : Chain t e q = on (past t e (Else n) j out₃) in (
+        (stay, past t p (If r e) i (chain-trans t (spans a) out₂)),
+        inner a in₁ out₂ (between a),
+        (in₂, past t e (Else n) j out₃),
+        inner b in₃ out₄ (between b),
+        (in₄, past t n Endif k (spans z)),
+        inner z in₅ stay (between z),
+      )
   between {q = q} (loop {p = p} {e = e} {r = r} {L = L} i v g a j u z) =
       let in₁ : Chain t p (p + 11) = on (past t p (While r e L) i stay) in
       let in₂ : Chain t p e = chain-trans t in₁ (spans a) in
@@ -196,8 +206,13 @@ module _ (t : Table) (R : Rules) where
     flows (branch {p = p} {e = e} {n = n} {E = E} {E₁ = E₁} {E₂ = E₂} i g a j b k z) h x w =
         let to : To t R at f (n + 1) (R .join E₁ E₂) = first z (h .5) w in
         let after-left : To t R at f (n + 1) E₁ = record { env = to .env; here = to .here; within = R .within-trans E₁ (R .join E₁ E₂) (to .env) (R .join-left E₁ E₂) (to .within) } in
-        let after-right : To t R at f (n + 1) E₂ = record { env = to .env; here = to .here; within = R .within-trans E₂ (R .join E₁ E₂) (to .env) (R .join-right E₁ E₂) (to .within) } in
-        (rw i (g, first a (h .1) (h .2), first b (h .3) (h .4)), flows a (h .1) (x .1) (h .2), rw j after-left,
-         flows b (h .3) (x .3) (h .4), rw k after-right, flows z (h .5) (x .5) w)
+        let after-right : To t R at f (n + 1) E₂ = record { env = to .env; here = to .here; within = R .within-trans E₂ (R .join E₁ E₂) (to .env) (R .join-right E₁ E₂) (to .within) } in (
+          rw i (g, first a (h .1) (h .2), first b (h .3) (h .4)),
+          flows a (h .1) (x .1) (h .2),
+          rw j after-left,
+          flows b (h .3) (x .3) (h .4),
+          rw k after-right,
+          flows z (h .5) (x .5) w,
+        )
     flows (loop {p = p} {e = e} {E₁ = E₁} {L = L} i v g a j u z) h x w =
         (rw i (g, first a (h .1) (h .2), first z (h .3) w), flows a (h .1) (x .1) (h .2), rw j record { env = R .loop L; here = h .0; within = u }, flows z (h .3) (x .3) w)

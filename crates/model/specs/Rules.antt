@@ -69,8 +69,10 @@ after m (Op d o l r) E = written E d (max (E .regs l) (E .regs r))
 after m (Select d c y n) E = written E d (max (E .regs c) (max (E .regs y) (E .regs n)))
 after m (Load d a i) E = written E d (max 1 (E .arrays a))
 after m (Store a i s) E = record {
-  status = E .status; regs = E .regs;
-  arrays = put (λ b. beside m (E .regs s) b (E .arrays b)) a (max (E .arrays a) (E .regs s)) }
+  status = E .status;
+  regs = E .regs;
+  arrays = put (λ b. beside m (E .regs s) b (E .arrays b)) a (max (E .arrays a) (E .regs s));
+}
 after m Init E = record { status = Updated; regs = λ i. settle (E .regs i); arrays = E .arrays }
 after m (Update r s) E = record { status = Updated; regs = E .regs; arrays = E .arrays }
 after m (Protect d s) E = record { status = Updated; regs = put (E .regs) d (settle (E .regs s)); arrays = E .arrays }
@@ -103,10 +105,21 @@ module _ (t : Table) where
 -- document 01's rules
 abbrev pub typing : Table → Rules
 typing t = record {
-  Env = Env; Within = Within (t .registers) (arrayCount t);
-  within-refl = within-refl (t .registers) (arrayCount t); within-trans = within-trans (t .registers) (arrayCount t);
-  join = join; join-left = join-left (t .registers) (arrayCount t); join-right = join-right (t .registers) (arrayCount t);
-  Needs = λ g. NeedsOf t; after = afterOf t; Public = λ E r. E .regs r ≡ 0; guarded = guarded; loop = envOf; enter = t .enter; leave = t .leave }
+  Env = Env;
+  Within = Within (t .registers) (arrayCount t);
+  within-refl = within-refl (t .registers) (arrayCount t);
+  within-trans = within-trans (t .registers) (arrayCount t);
+  join = join;
+  join-left = join-left (t .registers) (arrayCount t);
+  join-right = join-right (t .registers) (arrayCount t);
+  Needs = λ g. NeedsOf t;
+  after = afterOf t;
+  Public = λ E r. E .regs r ≡ 0;
+  guarded = guarded;
+  loop = envOf;
+  enter = t .enter;
+  leave = t .leave;
+}
 
 -- the rules type every function of the table
 abbrev pub Typed : Table → Type 0
@@ -125,5 +138,18 @@ Lower g Return = Unit {0}
 
 abbrev pub reading : Rules
 reading = record {
-  Env = Unit {0}; Within = λ _ _. Unit {0}; within-refl = λ _. tt; within-trans = λ _ _ _ _ _. tt; join = λ _ _. tt; join-left = λ _ _. tt; join-right = λ _ _. tt;
-  Needs = λ g i _. Lower g i; after = λ _ _. tt; Public = λ _ _. Unit {0}; guarded = λ _ _ _. tt; loop = λ _. tt; enter = λ _. tt; leave = λ _. tt }
+  Env = Unit {0};
+  Within = λ _ _. Unit {0};
+  within-refl = λ _. tt;
+  within-trans = λ _ _ _ _ _. tt;
+  join = λ _ _. tt;
+  join-left = λ _ _. tt;
+  join-right = λ _ _. tt;
+  Needs = λ g i _. Lower g i;
+  after = λ _ _. tt;
+  Public = λ _ _. Unit {0};
+  guarded = λ _ _ _. tt;
+  loop = λ _. tt;
+  enter = λ _. tt;
+  leave = λ _. tt;
+}

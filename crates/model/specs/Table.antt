@@ -9,16 +9,16 @@ use Rattle.model.specs.Records.{Fits}
 use Rattle.model.specs.declared.Record.{Record}
 
 pub record Table : Type 0 where
-  pub rec : ℕ → Record                   -- the record at a place
+  pub rec : ℕ → Record  -- the record at a place
   pub registers : ℕ
-  pub words : List ℕ                     -- the words of each array
+  pub words : List ℕ  -- the words of each array
   pub fits : (p : ℕ) → Fits registers (length words) (rec p)
   pub functions : ℕ
-  pub start : ℕ → ℕ                      -- of a function: its first place
-  pub ret : ℕ → ℕ                        -- of a function: its RETURN
-  pub enter : ℕ → Env                    -- of a function: its in-environment
-  pub leave : ℕ → Env                    -- of a function: its out-environment
-  pub site : ℕ → ℕ → Option Bool         -- of a function and a place: the mark, if the place follows a CALL of the function
+  pub start : ℕ → ℕ  -- of a function: its first place
+  pub ret : ℕ → ℕ  -- of a function: its RETURN
+  pub enter : ℕ → Env  -- of a function: its in-environment
+  pub leave : ℕ → Env  -- of a function: its out-environment
+  pub site : ℕ → ℕ → Option Bool  -- of a function and a place: the mark, if the place follows a CALL of the function
 
 -- the last function
 abbrev pub entry : Table → ℕ

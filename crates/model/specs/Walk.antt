@@ -12,8 +12,8 @@ use Rattle.model.specs.declared.Record.{Record}
 use Rattle.model.specs.declared.Record.the-variants.{Do, Call, If, Else, Endif, While, Endwhile, Return}
 
 pub data Walked (X : Type 0) : Type 0 where
-  Next : ℕ → X → Walked X                -- one record, or one block with its ends, is typed
-  Shut : ℕ → X → Walked X                -- a record that closes a block is met
+  Next : ℕ → X → Walked X  -- one record, or one block with its ends, is typed
+  Shut : ℕ → X → Walked X  -- a record that closes a block is met
   Fault : (number place : ℕ) → Walked X
 
 abbrev pub onNext : {X : Type 0} → Walked X → (ℕ → X → Walked X) → Walked X

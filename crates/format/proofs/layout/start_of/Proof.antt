@@ -1,0 +1,27 @@
+use borrow.Author.Needs.{needs}
+use Rattle.format.proofs.layout.start_of.Statement.{statement}
+use Rattle.format.proofs.layout.start_of.Tie as tie
+use Rattle.format.proofs.layout.start_of.Reads as reads
+use Rattle.format.proofs.layout.start_of.Lts as lts
+use Rattle.format.proofs.layout.signature_place.Reads as signature-place-reads
+use Rattle.format.proofs.place_at.Reads as place-at-reads
+
+-- src/layout.rt:45:17
+signature-place-requires : tie.Need-signature-place-requires
+signature-place-requires c κs = search needs
+
+-- src/layout.rt:45:17
+add-place-at : tie.Need-add-place-at
+add-place-at c = search needs
+
+-- src/layout.rt:45:5
+place-at-requires : tie.Need-place-at-requires
+place-at-requires c κs = search needs
+
+-- src/layout.rt:42:1
+returns : tie.Need-returns
+returns c = ?
+
+pub start-of-spec : {M : Type 1} → statement M
+start-of-spec =
+    tie.close (tie.spec signature-place-requires add-place-at place-at-requires returns)

@@ -1,0 +1,26 @@
+use borrow.Author.Needs.{needs}
+use Rattle.format.proofs.layout.words_at.Statement.{statement}
+use Rattle.format.proofs.layout.words_at.Tie as tie
+use Rattle.format.proofs.layout.words_at.Reads as reads
+use Rattle.format.proofs.layout.words_at.Lts as lts
+use Rattle.format.proofs.layout.array_place.Reads as array-place-reads
+use Rattle.format.proofs.place_at.Reads as place-at-reads
+
+-- src/layout.rt:66:17
+array-place-requires : tie.Need-array-place-requires
+array-place-requires c κs = search needs
+
+-- src/layout.rt:66:17
+add-place-at : tie.Need-add-place-at
+add-place-at c = search needs
+
+-- src/layout.rt:66:5
+place-at-requires : tie.Need-place-at-requires
+place-at-requires c κs = search needs
+
+-- src/layout.rt:63:1
+returns : tie.Need-returns
+returns c = ?
+
+pub words-at-spec : {M : Type 1} → statement M
+words-at-spec = tie.close (tie.spec array-place-requires add-place-at place-at-requires returns)

@@ -1,0 +1,177 @@
+use borrow.Author.Needs.{needs}
+use Rattle.format.proofs.records.fields.Statement.{statement}
+use Rattle.format.proofs.records.fields.Tie as tie
+use Rattle.format.proofs.records.fields.Reads as reads
+use Rattle.format.proofs.records.fields.Lts as lts
+use Rattle.format.proofs.records.read_call.Reads as read-call-reads
+use Rattle.format.proofs.records.read_const.Reads as read-const-reads
+use Rattle.format.proofs.records.read_else.Reads as read-else-reads
+use Rattle.format.proofs.records.read_endwhile.Reads as read-endwhile-reads
+use Rattle.format.proofs.records.read_if.Reads as read-if-reads
+use Rattle.format.proofs.records.read_load.Reads as read-load-reads
+use Rattle.format.proofs.records.read_op.Reads as read-op-reads
+use Rattle.format.proofs.records.read_protect.Reads as read-protect-reads
+use Rattle.format.proofs.records.read_select.Reads as read-select-reads
+use Rattle.format.proofs.records.read_store.Reads as read-store-reads
+use Rattle.format.proofs.records.read_update.Reads as read-update-reads
+use Rattle.format.proofs.records.read_while.Reads as read-while-reads
+
+-- src/records.rt:312:15
+read-const-requires : tie.Need-read-const-requires
+read-const-requires c κs = ?
+
+-- src/records.rt:313:15
+read-op-requires : tie.Need-read-op-requires
+read-op-requires c κs = ?
+
+-- src/records.rt:314:15
+read-select-requires : tie.Need-read-select-requires
+read-select-requires c κs = ?
+
+-- src/records.rt:315:15
+read-load-requires : tie.Need-read-load-requires
+read-load-requires c κs = ?
+
+-- src/records.rt:316:15
+read-store-requires : tie.Need-read-store-requires
+read-store-requires c κs = ?
+
+-- src/records.rt:317:54
+add-t8 : tie.Need-add-t8
+add-t8 c = search needs
+
+-- src/records.rt:318:15
+read-update-requires : tie.Need-read-update-requires
+read-update-requires c κs = ?
+
+-- src/records.rt:319:15
+read-protect-requires : tie.Need-read-protect-requires
+read-protect-requires c κs = ?
+
+-- src/records.rt:320:15
+read-call-requires : tie.Need-read-call-requires
+read-call-requires c κs = ?
+
+-- src/records.rt:321:15
+read-if-requires : tie.Need-read-if-requires
+read-if-requires c κs = ?
+
+-- src/records.rt:322:15
+read-else-requires : tie.Need-read-else-requires
+read-else-requires c κs = ?
+
+-- src/records.rt:323:43
+add-t10 : tie.Need-add-t10
+add-t10 c = search needs
+
+-- src/records.rt:324:15
+read-while-requires : tie.Need-read-while-requires
+read-while-requires c κs = ?
+
+-- src/records.rt:325:15
+read-endwhile-requires : tie.Need-read-endwhile-requires
+read-endwhile-requires c κs = ?
+
+-- src/records.rt:326:44
+add-t12 : tie.Need-add-t12
+add-t12 c = search needs
+
+-- src/records.rt:307:1
+returns : tie.Need-returns
+returns c = ?
+
+-- src/records.rt:307:1
+returns-2 : tie.Need-returns-2
+returns-2 c = ?
+
+-- src/records.rt:307:1
+returns-3 : tie.Need-returns-3
+returns-3 c = ?
+
+-- src/records.rt:307:1
+returns-4 : tie.Need-returns-4
+returns-4 c = ?
+
+-- src/records.rt:307:1
+returns-5 : tie.Need-returns-5
+returns-5 c = ?
+
+-- src/records.rt:307:1
+returns-6 : tie.Need-returns-6
+returns-6 c = ?
+
+-- src/records.rt:307:1
+returns-7 : tie.Need-returns-7
+returns-7 c = ?
+
+-- src/records.rt:307:1
+returns-8 : tie.Need-returns-8
+returns-8 c = ?
+
+-- src/records.rt:307:1
+returns-9 : tie.Need-returns-9
+returns-9 c = ?
+
+-- src/records.rt:307:1
+returns-10 : tie.Need-returns-10
+returns-10 c = ?
+
+-- src/records.rt:307:1
+returns-11 : tie.Need-returns-11
+returns-11 c = ?
+
+-- src/records.rt:307:1
+returns-12 : tie.Need-returns-12
+returns-12 c = ?
+
+-- src/records.rt:307:1
+returns-13 : tie.Need-returns-13
+returns-13 c = ?
+
+-- src/records.rt:307:1
+returns-14 : tie.Need-returns-14
+returns-14 c = ?
+
+-- src/records.rt:307:1
+returns-15 : tie.Need-returns-15
+returns-15 c = ?
+
+-- src/records.rt:307:1
+returns-16 : tie.Need-returns-16
+returns-16 c = ?
+
+pub fields-spec : {M : Type 1} → statement M
+fields-spec =
+    tie.close
+    (tie.spec
+    read-const-requires
+    read-op-requires
+    read-select-requires
+    read-load-requires
+    read-store-requires
+    add-t8
+    read-update-requires
+    read-protect-requires
+    read-call-requires
+    read-if-requires
+    read-else-requires
+    add-t10
+    read-while-requires
+    read-endwhile-requires
+    add-t12
+    returns
+    returns-2
+    returns-3
+    returns-4
+    returns-5
+    returns-6
+    returns-7
+    returns-8
+    returns-9
+    returns-10
+    returns-11
+    returns-12
+    returns-13
+    returns-14
+    returns-15
+    returns-16)

@@ -1,0 +1,30 @@
+use borrow.Author.Needs.{needs}
+use Rattle.format.proofs.records.packed_in.Statement.{statement}
+use Rattle.format.proofs.records.packed_in.Tie as tie
+use Rattle.format.proofs.records.packed_in.Reads as reads
+use Rattle.format.proofs.records.packed_in.Lts as lts
+use Rattle.format.proofs.records.levels_in.Reads as levels-in-reads
+
+-- src/records.rt:60:9
+returns : tie.Need-returns
+returns c = ?
+
+-- src/records.rt:62:8
+levels-in-requires : tie.Need-levels-in-requires
+levels-in-requires c κs = search needs
+
+-- src/records.rt:63:9
+levels-in-requires-2 : tie.Need-levels-in-requires-2
+levels-in-requires-2 c κs = search needs
+
+-- src/records.rt:63:9
+returns-2 : tie.Need-returns-2
+returns-2 c = ?
+
+-- src/records.rt:56:1
+returns-3 : tie.Need-returns-3
+returns-3 c = ?
+
+pub packed-in-spec : {M : Type 1} → statement M
+packed-in-spec =
+    tie.close (tie.spec returns levels-in-requires levels-in-requires-2 returns-2 returns-3)

@@ -1,0 +1,50 @@
+use borrow.Author.Needs.{needs}
+use Rattle.format.proofs.records.read_call.Statement.{statement}
+use Rattle.format.proofs.records.read_call.Tie as tie
+use Rattle.format.proofs.records.read_call.Reads as reads
+use Rattle.format.proofs.records.read_call.Lts as lts
+
+-- src/records.rt:227:22
+add-function : tie.Need-add-function
+add-function c = search needs
+
+-- src/records.rt:227:20
+shared-slice-read-function : tie.Need-shared-slice-read-function
+shared-slice-read-function c = search needs
+
+-- src/records.rt:228:18
+add-mark : tie.Need-add-mark
+add-mark c = search needs
+
+-- src/records.rt:228:16
+shared-slice-read-mark : tie.Need-shared-slice-read-mark
+shared-slice-read-mark c = search needs
+
+-- src/records.rt:230:9
+returns : tie.Need-returns
+returns c = ?
+
+-- src/records.rt:233:9
+returns-2 : tie.Need-returns-2
+returns-2 c = ?
+
+-- src/records.rt:240:9
+add-t6 : tie.Need-add-t6
+add-t6 c = search needs
+
+-- src/records.rt:223:1
+returns-3 : tie.Need-returns-3
+returns-3 c = ?
+
+pub read-call-spec : {M : Type 1} → statement M
+read-call-spec =
+    tie.close
+    (tie.spec
+    add-function
+    shared-slice-read-function
+    add-mark
+    shared-slice-read-mark
+    returns
+    returns-2
+    add-t6
+    returns-3)

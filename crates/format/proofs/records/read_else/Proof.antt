@@ -1,0 +1,25 @@
+use borrow.Author.Needs.{needs}
+use Rattle.format.proofs.records.read_else.Statement.{statement}
+use Rattle.format.proofs.records.read_else.Tie as tie
+use Rattle.format.proofs.records.read_else.Reads as reads
+use Rattle.format.proofs.records.read_else.Lts as lts
+use Rattle.format.proofs.place_at.Reads as place-at-reads
+
+-- src/records.rt:260:26
+add-place-at : tie.Need-add-place-at
+add-place-at c = search needs
+
+-- src/records.rt:260:9
+place-at-requires : tie.Need-place-at-requires
+place-at-requires c κs = search needs
+
+-- src/records.rt:261:39
+add-t5 : tie.Need-add-t5
+add-t5 c = search needs
+
+-- src/records.rt:256:1
+returns : tie.Need-returns
+returns c = ?
+
+pub read-else-spec : {M : Type 1} → statement M
+read-else-spec = tie.close (tie.spec add-place-at place-at-requires add-t5 returns)

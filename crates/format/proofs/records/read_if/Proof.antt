@@ -1,0 +1,46 @@
+use borrow.Author.Needs.{needs}
+use Rattle.format.proofs.records.read_if.Statement.{statement}
+use Rattle.format.proofs.records.read_if.Tie as tie
+use Rattle.format.proofs.records.read_if.Reads as reads
+use Rattle.format.proofs.records.read_if.Lts as lts
+use Rattle.format.proofs.place_at.Reads as place-at-reads
+
+-- src/records.rt:248:22
+add-register : tie.Need-add-register
+add-register c = search needs
+
+-- src/records.rt:248:20
+shared-slice-read-register : tie.Need-shared-slice-read-register
+shared-slice-read-register c = search needs
+
+-- src/records.rt:249:26
+add-place-at : tie.Need-add-place-at
+add-place-at c = search needs
+
+-- src/records.rt:249:9
+place-at-requires : tie.Need-place-at-requires
+place-at-requires c κs = search needs
+
+-- src/records.rt:251:9
+returns : tie.Need-returns
+returns c = ?
+
+-- src/records.rt:253:47
+add-t6 : tie.Need-add-t6
+add-t6 c = search needs
+
+-- src/records.rt:244:1
+returns-2 : tie.Need-returns-2
+returns-2 c = ?
+
+pub read-if-spec : {M : Type 1} → statement M
+read-if-spec =
+    tie.close
+    (tie.spec
+    add-register
+    shared-slice-read-register
+    add-place-at
+    place-at-requires
+    returns
+    add-t6
+    returns-2)

@@ -1,0 +1,65 @@
+use borrow.Author.Needs.{needs}
+use Rattle.format.proofs.records.read_load.Statement.{statement}
+use Rattle.format.proofs.records.read_load.Tie as tie
+use Rattle.format.proofs.records.read_load.Reads as reads
+use Rattle.format.proofs.records.read_load.Lts as lts
+
+-- src/records.rt:146:18
+add-dest : tie.Need-add-dest
+add-dest c = search needs
+
+-- src/records.rt:146:16
+shared-slice-read-dest : tie.Need-shared-slice-read-dest
+shared-slice-read-dest c = search needs
+
+-- src/records.rt:147:19
+add-array : tie.Need-add-array
+add-array c = search needs
+
+-- src/records.rt:147:17
+shared-slice-read-array : tie.Need-shared-slice-read-array
+shared-slice-read-array c = search needs
+
+-- src/records.rt:148:19
+add-index : tie.Need-add-index
+add-index c = search needs
+
+-- src/records.rt:148:17
+shared-slice-read-index : tie.Need-shared-slice-read-index
+shared-slice-read-index c = search needs
+
+-- src/records.rt:150:9
+returns : tie.Need-returns
+returns c = ?
+
+-- src/records.rt:153:9
+returns-2 : tie.Need-returns-2
+returns-2 c = ?
+
+-- src/records.rt:156:9
+returns-3 : tie.Need-returns-3
+returns-3 c = ?
+
+-- src/records.rt:158:67
+add-t7 : tie.Need-add-t7
+add-t7 c = search needs
+
+-- src/records.rt:142:1
+returns-4 : tie.Need-returns-4
+returns-4 c = ?
+
+pub read-load-spec : {M : Type 1} → statement M
+read-load-spec =
+    tie.close
+    (tie.spec
+    add-dest
+    shared-slice-read-dest
+    add-array
+    shared-slice-read-array
+    add-index
+    shared-slice-read-index
+    returns
+    returns-2
+    returns-3
+    add-t7
+    returns-4)

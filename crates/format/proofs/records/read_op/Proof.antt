@@ -1,0 +1,80 @@
+use borrow.Author.Needs.{needs}
+use Rattle.format.proofs.records.read_op.Statement.{statement}
+use Rattle.format.proofs.records.read_op.Tie as tie
+use Rattle.format.proofs.records.read_op.Reads as reads
+use Rattle.format.proofs.records.read_op.Lts as lts
+
+-- src/records.rt:84:18
+add-dest : tie.Need-add-dest
+add-dest c = search needs
+
+-- src/records.rt:84:16
+shared-slice-read-dest : tie.Need-shared-slice-read-dest
+shared-slice-read-dest c = search needs
+
+-- src/records.rt:85:16
+add-op : tie.Need-add-op
+add-op c = search needs
+
+-- src/records.rt:85:14
+shared-slice-read-op : tie.Need-shared-slice-read-op
+shared-slice-read-op c = search needs
+
+-- src/records.rt:86:18
+add-left : tie.Need-add-left
+add-left c = search needs
+
+-- src/records.rt:86:16
+shared-slice-read-left : tie.Need-shared-slice-read-left
+shared-slice-read-left c = search needs
+
+-- src/records.rt:87:19
+add-right : tie.Need-add-right
+add-right c = search needs
+
+-- src/records.rt:87:17
+shared-slice-read-right : tie.Need-shared-slice-read-right
+shared-slice-read-right c = search needs
+
+-- src/records.rt:89:9
+returns : tie.Need-returns
+returns c = ?
+
+-- src/records.rt:92:9
+returns-2 : tie.Need-returns-2
+returns-2 c = ?
+
+-- src/records.rt:95:9
+returns-3 : tie.Need-returns-3
+returns-3 c = ?
+
+-- src/records.rt:98:9
+returns-4 : tie.Need-returns-4
+returns-4 c = ?
+
+-- src/records.rt:107:9
+add-t8 : tie.Need-add-t8
+add-t8 c = search needs
+
+-- src/records.rt:80:1
+returns-5 : tie.Need-returns-5
+returns-5 c = ?
+
+pub read-op-spec : {M : Type 1} → statement M
+read-op-spec =
+    tie.close
+    (tie.spec
+    add-dest
+    shared-slice-read-dest
+    add-op
+    shared-slice-read-op
+    add-left
+    shared-slice-read-left
+    add-right
+    shared-slice-read-right
+    returns
+    returns-2
+    returns-3
+    returns-4
+    add-t8
+    returns-5)

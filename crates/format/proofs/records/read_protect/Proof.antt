@@ -1,0 +1,50 @@
+use borrow.Author.Needs.{needs}
+use Rattle.format.proofs.records.read_protect.Statement.{statement}
+use Rattle.format.proofs.records.read_protect.Tie as tie
+use Rattle.format.proofs.records.read_protect.Reads as reads
+use Rattle.format.proofs.records.read_protect.Lts as lts
+
+-- src/records.rt:212:18
+add-dest : tie.Need-add-dest
+add-dest c = search needs
+
+-- src/records.rt:212:16
+shared-slice-read-dest : tie.Need-shared-slice-read-dest
+shared-slice-read-dest c = search needs
+
+-- src/records.rt:213:20
+add-source : tie.Need-add-source
+add-source c = search needs
+
+-- src/records.rt:213:18
+shared-slice-read-source : tie.Need-shared-slice-read-source
+shared-slice-read-source c = search needs
+
+-- src/records.rt:215:9
+returns : tie.Need-returns
+returns c = ?
+
+-- src/records.rt:218:9
+returns-2 : tie.Need-returns-2
+returns-2 c = ?
+
+-- src/records.rt:220:64
+add-t6 : tie.Need-add-t6
+add-t6 c = search needs
+
+-- src/records.rt:208:1
+returns-3 : tie.Need-returns-3
+returns-3 c = ?
+
+pub read-protect-spec : {M : Type 1} → statement M
+read-protect-spec =
+    tie.close
+    (tie.spec
+    add-dest
+    shared-slice-read-dest
+    add-source
+    shared-slice-read-source
+    returns
+    returns-2
+    add-t6
+    returns-3)

@@ -1,0 +1,50 @@
+use borrow.Author.Needs.{needs}
+use Rattle.format.proofs.records.read_update.Statement.{statement}
+use Rattle.format.proofs.records.read_update.Tie as tie
+use Rattle.format.proofs.records.read_update.Reads as reads
+use Rattle.format.proofs.records.read_update.Lts as lts
+
+-- src/records.rt:191:22
+add-register : tie.Need-add-register
+add-register c = search needs
+
+-- src/records.rt:191:20
+shared-slice-read-register : tie.Need-shared-slice-read-register
+shared-slice-read-register c = search needs
+
+-- src/records.rt:192:19
+add-sense : tie.Need-add-sense
+add-sense c = search needs
+
+-- src/records.rt:192:17
+shared-slice-read-sense : tie.Need-shared-slice-read-sense
+shared-slice-read-sense c = search needs
+
+-- src/records.rt:194:9
+returns : tie.Need-returns
+returns c = ?
+
+-- src/records.rt:197:9
+returns-2 : tie.Need-returns-2
+returns-2 c = ?
+
+-- src/records.rt:204:9
+add-t6 : tie.Need-add-t6
+add-t6 c = search needs
+
+-- src/records.rt:187:1
+returns-3 : tie.Need-returns-3
+returns-3 c = ?
+
+pub read-update-spec : {M : Type 1} → statement M
+read-update-spec =
+    tie.close
+    (tie.spec
+    add-register
+    shared-slice-read-register
+    add-sense
+    shared-slice-read-sense
+    returns
+    returns-2
+    add-t6
+    returns-3)

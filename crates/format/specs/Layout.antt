@@ -1,0 +1,88 @@
+-- Document 01, "Table layout": the whole table. Sizes, the arrays, the signatures, then the functions in order, touching.
+use Prim.Native.Nat.{ℕ, zero, suc, _+_, _-_, _*_}
+use mathlib.Core.Path.{_≡_, refl, subst, sym}
+use mathlib.Core.List.{List, [], _∷_}
+use mathlib.Core.Bool.{Bool, true, false}
+use lib.ListN.{length, getD}
+use lib.Dec.{eqb}
+use Rattle.model.specs.Tests.{pick}
+use Rattle.model.specs.Packing.{envOf}
+use Rattle.model.specs.Records.{Fits}
+use Rattle.model.specs.Sites.{scan, homeOf}
+use Rattle.model.specs.Table.{Table}
+use Rattle.model.specs.declared.Sizes.{Sizes}
+use Rattle.model.specs.declared.Packed.{Packed}
+use Rattle.model.specs.declared.Record.{Record}
+use Rattle.model.specs.declared.Record.the-variants.{Return}
+use Rattle.format.specs.declared.Decoded.{Decoded}
+use Rattle.format.specs.declared.Decoded.the-variants.{Got, Bad}
+use Rattle.format.specs.Format.{byte, word16, packedAt, decodeAt}
+use Rattle.format.specs.Laws.{decoded-fits}
+
+-- bytes 1 to 3
+abbrev pub sizesOf : List ℕ → Sizes
+sizesOf t = record { registers = byte t 1; arrays = byte t 2; functions = byte t 3 }
+
+-- where the record of array a stands, and function f's signature: kind, start place, in, out
+abbrev pub arrayPlace : Sizes → ℕ → ℕ
+arrayPlace z a = 4 + 3 * a
+
+abbrev pub signaturePlace : Sizes → ℕ → ℕ
+signaturePlace z f = arrayPlace z (z .arrays) + 17 * f
+
+abbrev pub startOf : Sizes → List ℕ → ℕ → ℕ
+startOf z t f = word16 t (signaturePlace z f + 1)
+
+abbrev pub inOf : Sizes → List ℕ → ℕ → Packed
+inOf z t f = packedAt t (signaturePlace z f + 3)
+
+abbrev pub outOf : Sizes → List ℕ → ℕ → Packed
+outOf z t f = packedAt t (signaturePlace z f + 10)
+
+-- the words of array a; of the n arrays from a on
+abbrev pub wordsAt : Sizes → List ℕ → ℕ → ℕ
+wordsAt z t a = word16 t (arrayPlace z a + 1)
+
+unfoldable pub wordsFrom : Sizes → List ℕ → ℕ → ℕ → List ℕ
+wordsFrom z t zero a = []
+wordsFrom z t (suc n) a = wordsAt z t a ∷ wordsFrom z t n (suc a)
+
+-- the record at p; where none can be read, RETURN stands for it
+abbrev pub recordFrom : Decoded → Record
+recordFrom (Got r n) = r
+recordFrom (Bad n p) = Return
+
+unfoldable pub recordOf : Sizes → List ℕ → ℕ → Record
+recordOf z t p = recordFrom (decodeAt z t p)
+
+-- function f ends one byte before the next begins; the last, with the table
+unfoldable pub returnOf : Sizes → List ℕ → ℕ → ℕ
+returnOf z t f = pick (eqb (f + 1) (z .functions)) (length t) (startOf z t (f + 1)) - 1
+
+pub words-count : (z : Sizes) (t : List ℕ) (n a : ℕ) → length (wordsFrom z t n a) ≡ n
+unfolding wordsFrom
+words-count z t zero a = refl
+words-count z t (suc n) a = rw (words-count z t n (suc a))
+
+pub record-fits : (z : Sizes) (t : List ℕ) (p : ℕ) → Fits (z .registers) (z .arrays) (recordOf z t p)
+unfolding recordOf
+record-fits z t p = go (decodeAt z t p) refl
+  where
+    go : (d : Decoded) → decodeAt z t p ≡ d → Fits (z .registers) (z .arrays) (recordFrom d)
+    go (Got r n) e = decoded-fits z t p r n e
+    go (Bad n q) e = tt
+
+-- THE TABLE that bytes stand for
+abbrev pub tableOf : List ℕ → Table
+tableOf t = let z : Sizes = sizesOf t in record {
+  rec = recordOf z t;
+  registers = z .registers;
+  words = wordsFrom z t (z .arrays) 0;
+  fits = λ p. subst (λ (m : ℕ). Fits (z .registers) m (recordOf z t p)) (sym (words-count z t (z .arrays) 0)) (record-fits z t p);
+  functions = z .functions;
+  start = startOf z t;
+  ret = returnOf z t;
+  enter = λ f. envOf (inOf z t f);
+  leave = λ f. envOf (outOf z t f);
+  site = λ p q. scan (recordOf z t) (length t) (length t) (startOf z t 0) (homeOf (startOf z t) (z .functions) p) q;
+}

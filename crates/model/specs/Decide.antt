@@ -1,0 +1,92 @@
+-- Document 01's rules as tests, with the numbers of their faults; and that the tests decide the rules.
+use Prim.Native.Nat.{ℕ}
+use mathlib.Core.Path.{_≡_, refl}
+use mathlib.Core.Bool.{Bool, true, false}
+use lib.Dec.{eqb}
+use borrow.Author.Tests.{eqb-true, eq-eqb}
+use Rattle.model.specs.Tests.{Decides}
+use Rattle.model.specs.Levels.{Env, Within, within, within-is, sameStatus, same-status-is}
+use Rattle.model.specs.Table.{Table, arrayCount}
+use Rattle.model.specs.Rules.{Needs, NeedsOf, typing}
+use Rattle.model.specs.Walk.{Tests, Right}
+use Rattle.model.specs.declared.Status.the-variants.{Updated, Outdated}
+use Rattle.model.specs.declared.Simple.{Simple}
+use Rattle.model.specs.declared.Simple.the-variants.{Const, Op, Select, Load, Store, Init, Update, Protect}
+use Rattle.model.specs.declared.Record.{Record}
+use Rattle.model.specs.declared.Record.the-variants.{Do, Call, If, Else, Endif, While, Endwhile, Return}
+
+-- the environment gives a simple record what it asks
+abbrev pub meets : Simple → Env → Bool
+meets (Const d v) E = true
+meets (Op d o l r) E = true
+meets (Select d c y n) E = true
+meets (Load d a i) E = eqb (E .regs i) 0
+meets (Store a i s) E = eqb (E .regs i) 0
+meets Init E = true
+meets (Update r s) E = sameStatus (E .status) (Outdated r s)
+meets (Protect d s) E = sameStatus (E .status) Updated
+
+-- 10: index not public. 11: status not as UPDATE or PROTECT needs. The others ask nothing, and have no fault
+abbrev pub simpleNumber : Simple → ℕ
+simpleNumber (Const d v) = 0
+simpleNumber (Op d o l r) = 0
+simpleNumber (Select d c y n) = 0
+simpleNumber (Load d a i) = 10
+simpleNumber (Store a i s) = 10
+simpleNumber Init = 0
+simpleNumber (Update r s) = 11
+simpleNumber (Protect d s) = 11
+
+-- 13: not within the callee's in
+abbrev pub numberOf : Record → ℕ
+numberOf (Do s) = simpleNumber s
+numberOf (Call f m) = 13
+numberOf (If r e) = 0
+numberOf (Else n) = 0
+numberOf Endif = 0
+numberOf (While r e L) = 0
+numberOf (Endwhile w) = 0
+numberOf Return = 0
+
+level-is : (l : ℕ) → Decides (l ≡ 0) (eqb l 0)
+level-is l = (eqb-true l 0, eq-eqb l 0)
+
+asks-nothing : Decides (Unit {0}) true
+asks-nothing = (λ _. tt, λ _. refl)
+
+meets-is : (s : Simple) (E : Env) → Decides (Needs s E) (meets s E)
+meets-is (Const d v) E = asks-nothing
+meets-is (Op d o l r) E = asks-nothing
+meets-is (Select d c y n) E = asks-nothing
+meets-is (Load d a i) E = level-is (E .regs i)
+meets-is (Store a i s) E = level-is (E .regs i)
+meets-is Init E = asks-nothing
+meets-is (Update r s) E = same-status-is (E .status) (Outdated r s)
+meets-is (Protect d s) E = same-status-is (E .status) Updated
+
+module _ (t : Table) where
+  abbrev pub meetsOf : Record → Env → Bool
+  meetsOf (Do s) E = meets s E
+  meetsOf (Call f m) E = within (t .registers) (arrayCount t) E (t .enter f)
+  meetsOf (If r e) E = true
+  meetsOf (Else n) E = true
+  meetsOf Endif E = true
+  meetsOf (While r e L) E = true
+  meetsOf (Endwhile w) E = true
+  meetsOf Return E = true
+
+  meets-of-is : (i : Record) (E : Env) → Decides (NeedsOf t i E) (meetsOf i E)
+  meets-of-is (Do s) E = meets-is s E
+  meets-of-is (Call f m) E = within-is (t .registers) (arrayCount t) E (t .enter f)
+  meets-of-is (If r e) E = asks-nothing
+  meets-of-is (Else n) E = asks-nothing
+  meets-of-is Endif E = asks-nothing
+  meets-of-is (While r e L) E = asks-nothing
+  meets-of-is (Endwhile w) E = asks-nothing
+  meets-of-is Return E = asks-nothing
+
+  abbrev pub typingTests : Tests (typing t)
+  typingTests = record { within = within (t .registers) (arrayCount t); public = λ E r. eqb (E .regs r) 0; meets = meetsOf; number = numberOf }
+
+  pub typing-right : (g : ℕ) → Right (typing t) typingTests g
+  typing-right g = record { within = within-is (t .registers) (arrayCount t); public = λ E r. level-is (E .regs r); meets = meets-of-is }
