@@ -1,4 +1,4 @@
--- What every decoded record is: in range, and as long as its kind says.
+-- What every decoded record is: of the kind that its byte says, in range, whole in the table.
 use Prim.Native.Nat.{ℕ, _+_, _-_, _<_, _≤_}
 use native.Mathlib.Omega.{arith}
 use mathlib.Core.Path.{_≡_, refl, sym, ap, subst, _∙_}
@@ -10,10 +10,13 @@ use borrow.Author.Tests.{ltb-true, ltb-false, leb-false, eqb-true}
 use Rattle.model.specs.Tests.{pick, all, pick-ind}
 use Rattle.model.specs.Records.{lengthOf, length-pos, Fits}
 use Rattle.model.specs.declared.Sizes.{Sizes}
+use Rattle.model.specs.declared.Simple.{Simple}
+use Rattle.model.specs.declared.Simple.the-variants.{Const, Op, Select, Load, Store, Init, Update, Protect}
 use Rattle.model.specs.declared.Record.{Record}
+use Rattle.model.specs.declared.Record.the-variants.{Do, Call, If, Else, Endif, While, Endwhile, Return}
 use Rattle.format.specs.declared.Decoded.{Decoded}
 use Rattle.format.specs.declared.Decoded.the-variants.{Got, Bad}
-use Rattle.format.specs.Format.{byte, shaped, Row, rowsOf, byRow, rowAt, decodeAt}
+use Rattle.format.specs.Format.{byte, word16, shaped, Row, rowsOf, byRow, rowAt, decodeAt}
 
 -- every test of a list holds
 abbrev Trues : List Bool → Type 0
@@ -25,55 +28,125 @@ trues [] h = tt
 trues (true ∷ bs) h = (refl, trues bs h)
 trues (false ∷ bs) h = absurd (true≢false (sym h))
 
--- a row whose tests hold has its fields in range
-abbrev RowFits : Sizes → Row → Type 0
-RowFits z r = Trues (r .1) → Fits (z .registers) (z .arrays) (r .2)
+-- the kind byte of a record
+abbrev pub simpleKind : Simple → ℕ
+simpleKind (Const d v) = 16
+simpleKind (Op d o l r) = 17
+simpleKind (Select d c y n) = 18
+simpleKind (Load d a i) = 19
+simpleKind (Store a i s) = 20
+simpleKind Init = 21
+simpleKind (Update r s) = 22
+simpleKind (Protect d s) = 23
 
-abbrev AllFit : Sizes → List Row → Type 0
-AllFit z [] = Unit {0}
-AllFit z (r ∷ rs) = RowFits z r × AllFit z rs
+abbrev pub kindOf : Record → ℕ
+kindOf (Do s) = simpleKind s
+kindOf (Call f m) = 24
+kindOf (If r e) = 32
+kindOf (Else n) = 33
+kindOf Endif = 34
+kindOf (While r e L) = 35
+kindOf (Endwhile w) = 36
+kindOf Return = 37
 
-rows-fit : (z : Sizes) (t : List ℕ) (at : ℕ) → AllFit z (rowsOf z t at)
+-- the place that a closing record names stands in the two bytes after its kind
+abbrev pub Names : List ℕ → ℕ → Record → Type 0
+Names t at (Do s) = Unit {0}
+Names t at (Call f m) = Unit {0}
+Names t at (If r e) = Unit {0}
+Names t at (Else n) = n ≡ word16 t (at + 1)
+Names t at Endif = Unit {0}
+Names t at (While r e L) = Unit {0}
+Names t at (Endwhile w) = w ≡ word16 t (at + 1)
+Names t at Return = Unit {0}
+
+-- a row has its kind, and where its tests hold its fields are in range
+abbrev RowFits : Sizes → List ℕ → ℕ → Row → Type 0
+RowFits z t at r = (Trues (r .1) → Fits (z .registers) (z .arrays) (r .2)) × (kindOf (r .2) ≡ r .0) × Names t at (r .2)
+
+abbrev AllFit : Sizes → List ℕ → ℕ → List Row → Type 0
+AllFit z t at [] = Unit {0}
+AllFit z t at (r ∷ rs) = RowFits z t at r × AllFit z t at rs
+
+rows-fit : (z : Sizes) (t : List ℕ) (at : ℕ) → AllFit z t at (rowsOf z t at)
 rows-fit z t at =
     let n = z .registers in
     let m = z .arrays in
-    let lt : (i k : ℕ) → ltb (byte t (at + i)) k ≡ true → byte t (at + i) < k = λ i k. ltb-true (byte t (at + i)) k in
-    (λ w. lt 1 n (w .0),
-    (λ w. (lt 1 n (w .0), lt 2 8 (w .1 .0), lt 3 n (w .1 .1 .0), lt 4 n (w .1 .1 .1 .0)),
-    (λ w. (lt 1 n (w .0), lt 2 n (w .1 .0), lt 3 n (w .1 .1 .0), lt 4 n (w .1 .1 .1 .0)),
-    (λ w. (lt 1 n (w .0), lt 2 m (w .1 .0), lt 3 n (w .1 .1 .0)),
-    (λ w. (lt 1 m (w .0), lt 2 n (w .1 .0), lt 3 n (w .1 .1 .0)),
-    (λ w. tt,
-    (λ w. lt 1 n (w .0),
-    (λ w. (lt 1 n (w .0), lt 2 n (w .1 .0)),
-    (λ w. tt,
-    (λ w. lt 1 n (w .0),
-    (λ w. tt,
-    (λ w. tt,
-    (λ w. lt 1 n (w .0),
-    (λ w. tt,
-    (λ w. tt,
-    tt)))))))))))))))
+    let lt : (i k : ℕ) → ltb (byte t (at + i)) k ≡ true → byte t (at + i) < k = λ i k. ltb-true (byte t (at + i)) k in (
+      (λ w. lt 1 n (w .0), refl, tt),
+      (
+        (λ w. (lt 1 n (w .0), lt 2 8 (w .1 .0), lt 3 n (w .1 .1 .0), lt 4 n (w .1 .1 .1 .0)), refl, tt),
+        (
+          (λ w. (lt 1 n (w .0), lt 2 n (w .1 .0), lt 3 n (w .1 .1 .0), lt 4 n (w .1 .1 .1 .0)), refl, tt),
+          (
+            (λ w. (lt 1 n (w .0), lt 2 m (w .1 .0), lt 3 n (w .1 .1 .0)), refl, tt),
+            (
+              (λ w. (lt 1 m (w .0), lt 2 n (w .1 .0), lt 3 n (w .1 .1 .0)), refl, tt),
+              (
+                (λ w. tt, refl, tt),
+                (
+                  (λ w. lt 1 n (w .0), refl, tt),
+                  (
+                    (λ w. (lt 1 n (w .0), lt 2 n (w .1 .0)), refl, tt),
+                    (
+                      (λ w. tt, refl, tt),
+                      (
+                        (λ w. lt 1 n (w .0), refl, tt),
+                        (
+                          (λ w. tt, refl, refl),
+                          (
+                            (λ w. tt, refl, tt),
+                            (
+                              (λ w. lt 1 n (w .0), refl, tt),
+                              (
+                                (λ w. tt, refl, refl),
+                                (
+                                  (λ w. tt, refl, tt),
+                                  tt,
+                                ),
+                              ),
+                            ),
+                          ),
+                        ),
+                      ),
+                    ),
+                  ),
+                ),
+              ),
+            ),
+          ),
+        ),
+      ),
+    )
 
--- what is known of a decoded record: in range, whole in the table, and where the next one is due
+-- what is known of a decoded record: its kind, that it is in range and whole in the table, and where the next one is due
+pub record Good (z : Sizes) (t : List ℕ) (at : ℕ) (r : Record) (n : ℕ) : Type 0 where
+  pub kind : kindOf r ≡ byte t at
+  pub fits : Fits (z .registers) (z .arrays) r
+  pub names : Names t at r
+  pub next : n ≡ at + lengthOf r
+  pub whole : n ≤ length t
+
 abbrev pub Sound : Sizes → List ℕ → ℕ → Decoded → Type 0
-Sound z t at (Got r n) = Fits (z .registers) (z .arrays) r × (n ≡ at + lengthOf r) × (n ≤ length t)
+Sound z t at (Got r n) = Good z t at r n
 Sound z t at (Bad n p) = Unit {0}
 
-rows-sound : (z : Sizes) (t : List ℕ) (at k : ℕ) (rs : List Row) → at < length t → AllFit z rs → Sound z t at (byRow t at k rs)
-rows-sound z t at k [] l f = tt
-rows-sound z t at k (r ∷ rs) l f =
+rows-sound : (z : Sizes) (t : List ℕ) (at k : ℕ) (rs : List Row) → k ≡ byte t at → at < length t → AllFit z t at rs → Sound z t at (byRow t at k rs)
+rows-sound z t at k [] e l f = tt
+rows-sound z t at k (r ∷ rs) e l f =
     pick-ind (Sound z t at) (eqb k (r .0))
-    (λ _. pick-ind (Sound z t at) (ltb (length t - at) (lengthOf (r .2))) (λ _. tt)
+    (λ q. pick-ind (Sound z t at) (ltb (length t - at) (lengthOf (r .2))) (λ _. tt)
     (λ c. let c2 = ltb-false (length t - at) (lengthOf (r .2)) c in
-    pick-ind (Sound z t at) (all (r .1)) (λ h. (f .0 (trues (r .1) h), refl, omega arith)) (λ _. tt)))
-    (λ _. rows-sound z t at k rs l (f .1))
+    pick-ind (Sound z t at) (all (r .1))
+    (λ h. record { kind = f .0 .1 ∙ sym (eqb-true k (r .0) q) ∙ e; fits = f .0 .0 (trues (r .1) h); names = f .0 .2; next = refl; whole = omega arith })
+    (λ _. tt)))
+    (λ _. rows-sound z t at k rs e l (f .1))
 
 pub decode-sound : (z : Sizes) (t : List ℕ) (at : ℕ) → Sound z t at (decodeAt z t at)
 unfolding decodeAt rowAt
 decode-sound z t at =
     pick-ind (Sound z t at) (leb (length t) at) (λ _. tt)
-    (λ e. rows-sound z t at (byte t at) (rowsOf z t at) (leb-false (length t) at e) (rows-fit z t at))
+    (λ e. rows-sound z t at (byte t at) (rowsOf z t at) refl (leb-false (length t) at e) (rows-fit z t at))
 
-pub decoded-fits : (z : Sizes) (t : List ℕ) (at : ℕ) (r : Record) (n : ℕ) → decodeAt z t at ≡ Got r n → Fits (z .registers) (z .arrays) r
-decoded-fits z t at r n e = subst (Sound z t at) e (decode-sound z t at) .0
+pub good : (z : Sizes) (t : List ℕ) (at : ℕ) {r : Record} {n : ℕ} → decodeAt z t at ≡ Got r n → Good z t at r n
+good z t at e = subst (Sound z t at) e (decode-sound z t at)

@@ -17,7 +17,7 @@ use Rattle.model.specs.declared.Record.the-variants.{Return}
 use Rattle.format.specs.declared.Decoded.{Decoded}
 use Rattle.format.specs.declared.Decoded.the-variants.{Got, Bad}
 use Rattle.format.specs.Format.{byte, word16, packedAt, decodeAt}
-use Rattle.format.specs.Laws.{decoded-fits}
+use Rattle.format.specs.Laws.{good}
 
 -- bytes 1 to 3
 abbrev pub sizesOf : List ℕ → Sizes
@@ -69,7 +69,7 @@ unfolding recordOf
 record-fits z t p = go (decodeAt z t p) refl
   where
     go : (d : Decoded) → decodeAt z t p ≡ d → Fits (z .registers) (z .arrays) (recordFrom d)
-    go (Got r n) e = decoded-fits z t p r n e
+    go (Got r n) e = good z t p e .fits
     go (Bad n q) e = tt
 
 -- THE TABLE that bytes stand for

@@ -29,11 +29,11 @@ module _ (t : Table) (R : Rules) (h : ℕ) where
   Begins p E q F (Do s) = R .Needs h (Do s) E × Types t R h (p + lengthOf (Do s)) (R .after (Do s) E) q F
   Begins p E q F (Call f m) = R .Needs h (Call f m) E × Types t R h (p + 3) (R .after (Call f m) E) q F
   Begins p E q F (If r e) = (n : ℕ) × (E₁ : R .Env) × (E₂ : R .Env) × R .Public E r × Types t R h (p + 4) (R .guarded E r true) e E₁ × (t .rec e ≡ Else n)
-    × Types t R h (e + 3) (R .guarded E r false) n E₂ × Types t R h (n + 1) (R .join E₁ E₂) q F
+      × Types t R h (e + 3) (R .guarded E r false) n E₂ × Types t R h (n + 1) (R .join E₁ E₂) q F
   Begins p E q F (Else n) = F ≡ E
   Begins p E q F Endif = F ≡ E
   Begins p E q F (While r e L) = (E₁ : R .Env) × R .Within E (R .loop L) × R .Public (R .loop L) r × Types t R h (p + 11) (R .guarded (R .loop L) r true) e E₁
-    × R .Within E₁ (R .loop L) × Types t R h (e + 3) (R .guarded (R .loop L) r false) q F
+      × R .Within E₁ (R .loop L) × Types t R h (e + 3) (R .guarded (R .loop L) r false) q F
   Begins p E q F (Endwhile w) = F ≡ E
   Begins p E q F Return = F ≡ E
 
@@ -129,51 +129,55 @@ module _ (t : Table) (R : Rules) (D : Tests R) (g size : ℕ) (ok : Right R D g)
   says-one : (p q m : ℕ) → Single (t .rec p) → p + lengthOf (t .rec p) ≤ q → SaysRight (p + lengthOf (t .rec p)) q m → SaysRight p q m
   says-one p q m i l h = says-count p q m (omega arith) (λ d k E u v. rw (single-at t R D (t .rec p) (blocks d p) p E i)
       (pick-ind (λ w. Says p E q (onNext w (walk d k))) (D .meets (t .rec p) E)
-        (λ e. let n = ok .meets (t .rec p) E .0 e in
-          says-map p (p + lengthOf (t .rec p)) q E (R .after (t .rec p) E) (walk d k (p + lengthOf (t .rec p)) (R .after (t .rec p) E)) (λ F b. one i n b) (λ _ _ f. past i n f)
-          (h d k (R .after (t .rec p) E) u (omega (arith, length-pos (t .rec p)))))
-        (λ e. fails i (refuted (D .meets (t .rec p) E) (ok .meets (t .rec p) E) e) refl)))
+      (λ e. let n = ok .meets (t .rec p) E .0 e in
+      says-map p (p + lengthOf (t .rec p)) q E (R .after (t .rec p) E) (walk d k (p + lengthOf (t .rec p)) (R .after (t .rec p) E)) (λ F b. one i n b) (λ _ _ f. past i n f)
+      (h d k (R .after (t .rec p) E) u (omega (arith, length-pos (t .rec p)))))
+      (λ e. fails i (refuted (D .meets (t .rec p) E) (ok .meets (t .rec p) E) e) refl)))
 
   says-if : (p e n q r x y z : ℕ) → t .rec p ≡ If r e → t .rec e ≡ Else n → t .rec n ≡ Endif → p + 4 ≤ e → e + 3 ≤ n → n + 1 ≤ q → q < size
-    → SaysRight (p + 4) e x → SaysRight (e + 3) n y → SaysRight (n + 1) q z → SaysRight p q (max (suc (max x y)) z)
+      → SaysRight (p + 4) e x → SaysRight (e + 3) n y → SaysRight (n + 1) q z → SaysRight p q (max (suc (max x y)) z)
   says-if p e n q r x y z i j l l₁ l₂ l₃ in-size A B Z = says-count p q (max (suc (max x y)) z) (omega arith) (λ d k E u v. rw i (go d k E u v))
     where
       second : (d k : ℕ) (E : R .Env) → max (suc (max x y)) z ≤ d → q < suc k + p → R .Public E r → (E₁ : R .Env) → Block (p + 4) (R .guarded E r true) e E₁
-        → (w : Walked (R .Env)) → Says (e + 3) (R .guarded E r false) n w → Says p E q (onNext (onShut w λ n E₂. Next (n + 1) (R .join E₁ E₂)) (walk d k))
+          → (w : Walked (R .Env)) → Says (e + 3) (R .guarded E r false) n w → Says p E q (onNext (onShut w λ n E₂. Next (n + 1) (R .join E₁ E₂)) (walk d k))
       second d k E u v o E₁ a (Next m F) h = absurd h
       second d k E u v o E₁ a (Fault m c) h = if-second i o a j h
       second d k E u v o E₁ a (Shut m E₂) (s, b) = rw s (says-map p (n + 1) q E (R .join E₁ E₂) (walk d k (n + 1) (R .join E₁ E₂))
-        (λ F c. branch i o a j b l c) (λ _ _ f. if-past i o a j b l f) (Z d k (R .join E₁ E₂) (omega arith) (omega arith)))
+          (λ F c. branch i o a j b l c) (λ _ _ f. if-past i o a j b l f) (Z d k (R .join E₁ E₂) (omega arith) (omega arith)))
+
       first : (d k : ℕ) (E : R .Env) → max (suc (max x y)) z ≤ d → q < suc k + p → R .Public E r → (w : Walked (R .Env)) → Says (p + 4) (R .guarded E r true) e w
-        → Says p E q (onNext (onShut w λ e E₁. onShut (blocks d p (e + 3) (R .guarded E r false)) λ n E₂. Next (n + 1) (R .join E₁ E₂)) (walk d k))
+          → Says p E q (onNext (onShut w λ e E₁. onShut (blocks d p (e + 3) (R .guarded E r false)) λ n E₂. Next (n + 1) (R .join E₁ E₂)) (walk d k))
       first d k E u v o (Next m F) h = absurd h
       first d k E u v o (Fault m c) h = if-first i o h
       first d k E u v o (Shut m E₁) (s, a) = rw s (second d k E u v o E₁ a (blocks d p (e + 3) (R .guarded E r false)) (blocks-say p (e + 3) n y B (omega arith) d (R .guarded E r false) (omega arith)))
+
       go : (d k : ℕ) (E : R .Env) → max (suc (max x y)) z ≤ d → q < suc k + p → Says p E q (onNext (ifWith t R D (blocks d p) p r E) (walk d k))
       go d k E u v = pick-ind (λ w. Says p E q (onNext w (walk d k))) (D .public E r)
-        (λ b. first d k E u v (ok .public E r .0 b) (blocks d p (p + 4) (R .guarded E r true)) (blocks-say p (p + 4) e x A (omega arith) d (R .guarded E r true) (omega arith)))
-        (λ b. if-guard i (refuted (D .public E r) (ok .public E r) b) refl)
+          (λ b. first d k E u v (ok .public E r .0 b) (blocks d p (p + 4) (R .guarded E r true)) (blocks-say p (p + 4) e x A (omega arith) d (R .guarded E r true) (omega arith)))
+          (λ b. if-guard i (refuted (D .public E r) (ok .public E r) b) refl)
 
   says-while : (p e q r x z : ℕ) (L : Packed) → t .rec p ≡ While r e L → t .rec e ≡ Endwhile p → p + 11 ≤ e → e + 3 ≤ q → q < size
-    → SaysRight (p + 11) e x → SaysRight (e + 3) q z → SaysRight p q (max (suc x) z)
+      → SaysRight (p + 11) e x → SaysRight (e + 3) q z → SaysRight p q (max (suc x) z)
   says-while p e q r x z L₀ i j l₁ l₂ in-size A Z = says-count p q (max (suc x) z) (omega arith) (λ d k E u v. rw i (go d k E u v))
     where
       L : R .Env
       L = R .loop L₀
+
       body : (d k : ℕ) (E : R .Env) → max (suc x) z ≤ d → q < suc k + p → R .Within E L → R .Public L r → (w : Walked (R .Env)) → Says (p + 11) (R .guarded L r true) e w
-        → Says p E q (onNext (onShut w λ e E₁. pick (D .within E₁ L) (Next (e + 3) (R .guarded L r false)) (Fault 12 e)) (walk d k))
+          → Says p E q (onNext (onShut w λ e E₁. pick (D .within E₁ L) (Next (e + 3) (R .guarded L r false)) (Fault 12 e)) (walk d k))
       body d k E u v a o (Next m F) h = absurd h
       body d k E u v a o (Fault m c) h = while-body i a o h
       body d k E u v a o (Shut m E₁) (s, b) = rw s (pick-ind (λ w. Says p E q (onNext w (walk d k))) (D .within E₁ L)
-        (λ c. let f = ok .within E₁ L .0 c in says-map p (e + 3) q E (R .guarded L r false) (walk d k (e + 3) (R .guarded L r false))
+          (λ c. let f = ok .within E₁ L .0 c in says-map p (e + 3) q E (R .guarded L r false) (walk d k (e + 3) (R .guarded L r false))
           (λ F y. loop i a o b j f y) (λ _ _ y. while-past i a o b j f y) (Z d k (R .guarded L r false) (omega arith) (omega arith)))
-        (λ c. while-end i a o b j (refuted (D .within E₁ L) (ok .within E₁ L) c) refl))
+          (λ c. while-end i a o b j (refuted (D .within E₁ L) (ok .within E₁ L) c) refl))
+
       go : (d k : ℕ) (E : R .Env) → max (suc x) z ≤ d → q < suc k + p → Says p E q (onNext (whileWith t R D (blocks d p) p r L E) (walk d k))
       go d k E u v = pick-ind (λ w. Says p E q (onNext w (walk d k))) (D .within E L)
-        (λ b. let a = ok .within E L .0 b in pick-ind (λ w. Says p E q (onNext w (walk d k))) (D .public L r)
+          (λ b. let a = ok .within E L .0 b in pick-ind (λ w. Says p E q (onNext w (walk d k))) (D .public L r)
           (λ c. body d k E u v a (ok .public L r .0 c) (blocks d p (p + 11) (R .guarded L r true)) (blocks-say p (p + 11) e x A (omega arith) d (R .guarded L r true) (omega arith)))
           (λ c. while-guard i a (refuted (D .public L r) (ok .public L r) c) refl))
-        (λ b. while-arriving i (refuted (D .within E L) (ok .within E L) b) refl)
+          (λ b. while-arriving i (refuted (D .within E L) (ok .within E L) b) refl)
 
   below : (e q k : ℕ) → e + 3 ≤ q → q < k → e < k
   below e q k l h = omega arith
@@ -186,19 +190,19 @@ module _ (t : Table) (R : Rules) (D : Tests R) (g size : ℕ) (ok : Right R D g)
   says-right {q = q} (one {p = p} i n s) c l = says-one p q (nesting t reading s) i (chain-le t (spans t reading s)) (says-right s c l)
   says-right {q = q} (branch {p = p} {e = e} {n = n} {r = r} i o a j b k z) c l =
       says-if p e n q r (nesting t reading a) (nesting t reading b) (nesting t reading z) i j k (chain-le t (spans t reading a)) (chain-le t (spans t reading b)) (chain-le t (spans t reading z)) l
-        (says-right a (rw j tt) (below e n size (chain-le t (spans t reading b)) (below₁ n q size (chain-le t (spans t reading z)) l)))
-        (says-right b (rw k tt) (below₁ n q size (chain-le t (spans t reading z)) l)) (says-right z c l)
+      (says-right a (rw j tt) (below e n size (chain-le t (spans t reading b)) (below₁ n q size (chain-le t (spans t reading z)) l)))
+      (says-right b (rw k tt) (below₁ n q size (chain-le t (spans t reading z)) l)) (says-right z c l)
   says-right {q = q} (loop {p = p} {e = e} {r = r} {L = L} i v o a j u z) c l =
       says-while p e q r (nesting t reading a) (nesting t reading z) L i j (chain-le t (spans t reading a)) (chain-le t (spans t reading z)) l
-        (says-right a (rw j tt) (below e q size (chain-le t (spans t reading z)) l)) (says-right z c l)
+      (says-right a (rw j tt) (below e q size (chain-le t (spans t reading z)) l)) (says-right z c l)
 
   -- ---- whatever the rules type, the walk types alike
   abbrev Complete : ℕ → ℕ → ℕ → Type 0
   Complete p q m = (d k : ℕ) (E F : R .Env) → m ≤ d → q < k + p → Block p E q F → walk d k p E ≡ Shut q F
 
   count : (p q m : ℕ) → p ≤ q
-    → ((d k : ℕ) (E F : R .Env) → m ≤ d → q < suc k + p → Block p E q F → onNext (instrWith t R D (blocks d p) (t .rec p) p E) (walk d k) ≡ Shut q F)
-    → Complete p q m
+      → ((d k : ℕ) (E F : R .Env) → m ≤ d → q < suc k + p → Block p E q F → onNext (instrWith t R D (blocks d p) (t .rec p) p E) (walk d k) ≡ Shut q F)
+      → Complete p q m
   unfolding blockWith
   count p q m l h d zero E F u v w = absurd (omega arith)
   count p q m l h d (suc k) E F u v w = rw (instr-at t R D size d p E) (h d k E F u v w)
@@ -215,10 +219,10 @@ module _ (t : Table) (R : Rules) (D : Tests R) (g size : ℕ) (ok : Right R D g)
   one-case p q m i l c h = count p q m (omega arith) (λ d k E F x y w.
       let b = begins-single t R g p q E F (t .rec p) i (begins t R g w c) in
       rw (single-at t R D (t .rec p) (blocks d p) p E i, ok .meets (t .rec p) E .1 (b .0))
-        (h d k (R .after (t .rec p) E) F x (omega (arith, length-pos (t .rec p))) (b .1)))
+      (h d k (R .after (t .rec p) E) F x (omega (arith, length-pos (t .rec p))) (b .1)))
 
   if-case : (p e n q r x y z : ℕ) → t .rec p ≡ If r e → t .rec e ≡ Else n → p + 4 ≤ e → e + 3 ≤ n → n + 1 ≤ q → q < size → Closes (t .rec q)
-    → Complete (p + 4) e x → Complete (e + 3) n y → Complete (n + 1) q z → Complete p q (max (suc (max x y)) z)
+      → Complete (p + 4) e x → Complete (e + 3) n y → Complete (n + 1) q z → Complete p q (max (suc (max x y)) z)
   if-case p e n q r x y z i j l₁ l₂ l₃ l c A B Z = count p q (max (suc (max x y)) z) (omega arith) (λ d k E F u v w. rw i (go d k E F u v (subst (Begins t R g p E q F) i (begins t R g w c))))
     where
       go : (d k : ℕ) (E F : R .Env) → max (suc (max x y)) z ≤ d → q < suc k + p → Begins t R g p E q F (If r e) → onNext (ifWith t R D (blocks d p) p r E) (walk d k) ≡ Shut q F
@@ -227,27 +231,27 @@ module _ (t : Table) (R : Rules) (D : Tests R) (g size : ℕ) (ok : Right R D g)
           let b′ : Block (e + 3) (R .guarded E r false) n E₂ = subst (λ (x : ℕ). Block (e + 3) (R .guarded E r false) x E₂) mn b in
           let rest′ : Block (n + 1) (R .join E₁ E₂) q F = subst (λ (x : ℕ). Block (x + 1) (R .join E₁ E₂) q F) mn rest in
           rw (ok .public E r .1 o, blocks-complete p (p + 4) e x A (omega arith) d (R .guarded E r true) E₁ (omega arith) a, blocks-complete p (e + 3) n y B (omega arith) d (R .guarded E r false) E₂ (omega arith) b′)
-            (Z d k (R .join E₁ E₂) F (omega arith) (omega arith) rest′)
+          (Z d k (R .join E₁ E₂) F (omega arith) (omega arith) rest′)
 
   while-case : (p e q r x z : ℕ) (L : Packed) → t .rec p ≡ While r e L → p + 11 ≤ e → e + 3 ≤ q → q < size → Closes (t .rec q)
-    → Complete (p + 11) e x → Complete (e + 3) q z → Complete p q (max (suc x) z)
+      → Complete (p + 11) e x → Complete (e + 3) q z → Complete p q (max (suc x) z)
   while-case p e q r x z L₀ i l₁ l₂ l c A Z = count p q (max (suc x) z) (omega arith) (λ d k E F u v w. rw i (go d k E F u v (subst (Begins t R g p E q F) i (begins t R g w c))))
     where
       go : (d k : ℕ) (E F : R .Env) → max (suc x) z ≤ d → q < suc k + p → Begins t R g p E q F (While r e L₀) → onNext (whileWith t R D (blocks d p) p r (R .loop L₀) E) (walk d k) ≡ Shut q F
       go d k E F u v (E₁, f, o, a, h, rest) =
           rw (ok .within E (R .loop L₀) .1 f, ok .public (R .loop L₀) r .1 o, blocks-complete p (p + 11) e x A (omega arith) d (R .guarded (R .loop L₀) r true) E₁ (omega arith) a, ok .within E₁ (R .loop L₀) .1 h)
-            (Z d k (R .guarded (R .loop L₀) r false) F (omega arith) (omega arith) rest)
+          (Z d k (R .guarded (R .loop L₀) r false) F (omega arith) (omega arith) rest)
 
   walk-complete : {p q : ℕ} {u v : Unit {0}} (s : Types t reading g p u q v) → Closes (t .rec q) → q < size → Complete p q (nesting t reading s)
   walk-complete (done {p = p}) c l = done-case p c
   walk-complete {q = q} (one {p = p} i n s) c l = one-case p q (nesting t reading s) i (chain-le t (spans t reading s)) c (walk-complete s c l)
   walk-complete {q = q} (branch {p = p} {e = e} {n = n} {r = r} i o a j b k z) c l =
       if-case p e n q r (nesting t reading a) (nesting t reading b) (nesting t reading z) i j (chain-le t (spans t reading a)) (chain-le t (spans t reading b)) (chain-le t (spans t reading z)) l c
-        (walk-complete a (rw j tt) (below e n size (chain-le t (spans t reading b)) (below₁ n q size (chain-le t (spans t reading z)) l)))
-        (walk-complete b (rw k tt) (below₁ n q size (chain-le t (spans t reading z)) l)) (walk-complete z c l)
+      (walk-complete a (rw j tt) (below e n size (chain-le t (spans t reading b)) (below₁ n q size (chain-le t (spans t reading z)) l)))
+      (walk-complete b (rw k tt) (below₁ n q size (chain-le t (spans t reading z)) l)) (walk-complete z c l)
   walk-complete {q = q} (loop {p = p} {e = e} {r = r} {L = L} i v o a j u z) c l =
       while-case p e q r (nesting t reading a) (nesting t reading z) L i (chain-le t (spans t reading a)) (chain-le t (spans t reading z)) l c
-        (walk-complete a (rw j tt) (below e q size (chain-le t (spans t reading z)) l)) (walk-complete z c l)
+      (walk-complete a (rw j tt) (below e q size (chain-le t (spans t reading z)) l)) (walk-complete z c l)
 
   -- ---- a function that has been read, nested at most 16 deep
   abbrev pub Verdict : Walked (R .Env) → Type 0
@@ -264,8 +268,8 @@ module _ (t : Table) (R : Rules) (D : Tests R) (g size : ℕ) (ok : Right R D g)
       go (Next p E) h = absurd h
       go (Fault m p) h = on-the-way h
       go (Shut p E) (e, h) = pick-ind Verdict (D .within E (R .leave g))
-        (λ b. record { last = E; body = h; returns = s .returns; fits = ok .within E (R .leave g) .0 b })
-        (λ b. at-return E (rw e h) (rw e (s .returns)) (refuted (D .within E (R .leave g)) (ok .within E (R .leave g)) b) refl)
+          (λ b. record { last = E; body = h; returns = s .returns; fits = ok .within E (R .leave g) .0 b })
+          (λ b. at-return E (rw e h) (rw e (s .returns)) (refuted (D .within E (R .leave g)) (ok .within E (R .leave g)) b) refl)
 
   abbrev pub Passes : Walked (R .Env) → Type 0
   Passes (Next p E) = ⊥
@@ -281,5 +285,6 @@ module _ (t : Table) (R : Rules) (D : Tests R) (g size : ℕ) (ok : Right R D g)
       typed (Next p E) v h = absurd h
       typed (Shut p E) v h = v
       typed (Fault n p) v h = absurd h
+
       complete : TypesFunction t R g → Passes (functionAt t R D size g)
       complete h = rw (walk-complete (s .body) (rw (s .returns) tt) l 16 size (R .enter g) (h .last) n (omega arith) (h .body), ok .within (h .last) (R .leave g) .1 (h .fits)) tt

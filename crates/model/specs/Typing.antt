@@ -62,6 +62,7 @@ module _ (t : Table) (size : ℕ) where
             pick-last : Dec (g ≡ t .functions - suc n) → TypesFunction t (typing t) g
             pick-last (yes e) = rw e d
             pick-last (no h) = b g (omega arith)
+
         go : (w : Walked Env) → Verdict t (typing t) (typingTests t) (t .functions - suc n) size (typing-right t (t .functions - suc n)) w → (Before (t .functions - n) → Says (typeFrom n)) → Says (onPass w (typeFrom n))
         go (Next p E) v ih = absurd v
         go (Shut p E) v ih = ih (more v)

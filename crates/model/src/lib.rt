@@ -90,6 +90,14 @@ pub enum Record {
     Return,
 }
 
+// How far a walk over the records of a block came: past one record, or one block with its ends; to the record that closes
+// the block; or to a fault.
+pub enum Walked {
+    Next(usize),
+    Shut(usize),
+    Fault(u8, usize),
+}
+
 // The bytes of a simple record, the kind byte counted.
 pub fn simple_length(s: Simple) -> usize
     ensures { λ r. ⌜ r ≡ simpleLength s ⌝ }

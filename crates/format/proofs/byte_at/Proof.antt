@@ -1,3 +1,4 @@
+use Rattle.format.proofs.Laws.{past}
 use borrow.Author.Needs.{needs}
 use Rattle.format.proofs.byte_at.Statement.{statement}
 use Rattle.format.proofs.byte_at.Tie as tie
@@ -14,7 +15,7 @@ returns c = search needs
 
 -- src/lib.rt:42:1
 returns-2 : tie.Need-returns-2
-returns-2 c = ?
+returns-2 c = past (c .before .args .t .now) (c .before .args .p) (c .if1 .left)
 
 pub byte-at-spec : {M : Type 1} → statement M
 byte-at-spec = tie.close (tie.spec shared-slice-read-result returns returns-2)

@@ -29,7 +29,7 @@ two-requires c κs = search needs
 
 -- src/lib.rt:79:1
 returns : tie.Need-returns
-returns c = ?
+returns c = simp (c .before .before .byte-at .ensures, c .before .four .ensures, c .two .ensures .0)
 
 pub packed-at-spec : {M : Type 1} → statement M
 packed-at-spec =

@@ -1,3 +1,5 @@
+use native.Mathlib.Omega.{arith}
+use Rattle.format.proofs.Laws.{past16}
 use borrow.Author.Needs.{needs}
 use Rattle.format.proofs.place_at.Statement.{statement}
 use Rattle.format.proofs.place_at.Tie as tie
@@ -40,7 +42,7 @@ returns c = search needs
 
 -- src/lib.rt:52:1
 returns-2 : tie.Need-returns-2
-returns-2 c = ?
+returns-2 c = (past16 (c .before .before .args .t .now) (c .before .before .args .p) (c .if1 .left), omega arith)
 
 pub place-at-spec : {M : Type 1} → statement M
 place-at-spec =

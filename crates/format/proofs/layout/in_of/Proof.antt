@@ -20,7 +20,7 @@ packed-at-requires c κs = search needs
 
 -- src/layout.rt:49:1
 returns : tie.Need-returns
-returns c = ?
+returns c = simp (c .packed-at .ensures, c .before .signature-place .ensures .0)
 
 pub in-of-spec : {M : Type 1} → statement M
 in-of-spec = tie.close (tie.spec signature-place-requires add-packed-at packed-at-requires returns)

@@ -19,7 +19,7 @@ byte-at-requires-3 c κs = search needs
 
 -- src/layout.rt:14:1
 returns : tie.Need-returns
-returns c = ?
+returns c = simp (c .before .before .byte-at .ensures, c .before .byte-at2 .ensures, c .byte-at3 .ensures)
 
 pub sizes-of-spec : {M : Type 1} → statement M
 sizes-of-spec = tie.close (tie.spec byte-at-requires byte-at-requires-2 byte-at-requires-3 returns)

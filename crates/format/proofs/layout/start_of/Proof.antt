@@ -20,7 +20,7 @@ place-at-requires c κs = search needs
 
 -- src/layout.rt:42:1
 returns : tie.Need-returns
-returns c = ?
+returns c = (simp (c .place-at .ensures .0, c .before .signature-place .ensures .0), c .place-at .ensures .1)
 
 pub start-of-spec : {M : Type 1} → statement M
 start-of-spec =

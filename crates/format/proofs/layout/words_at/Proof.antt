@@ -20,7 +20,7 @@ place-at-requires c κs = search needs
 
 -- src/layout.rt:63:1
 returns : tie.Need-returns
-returns c = ?
+returns c = (simp (c .place-at .ensures .0, c .before .array-place .ensures .0), c .place-at .ensures .1)
 
 pub words-at-spec : {M : Type 1} → statement M
 words-at-spec = tie.close (tie.spec array-place-requires add-place-at place-at-requires returns)

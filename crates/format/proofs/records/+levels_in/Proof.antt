@@ -1,3 +1,7 @@
+use borrow.Author.Needs.{needs}
+use borrow.Author.Tests.{eq-eqb, ne-eqb}
+use Rattle.model.specs.Packing.{levelsIn}
+use Rattle.format.proofs.Laws.{levels-is}
 use Prim.Native.Nat.{ℕ, _<_}
 use borrow.Fn.Kinds.{In}
 use borrow.Fn.PlainCycle.{Measures, is, falls, and}
@@ -8,7 +12,7 @@ use Rattle.format.proofs.records.+levels_in.{statement}
 use Rattle.format.proofs.records.+levels_in.Tie.{close}
 
 abbrev μ-levels-in : Measures 0 levels-in-kinds.ps ℕ
-μ-levels-in κs a = ?
+μ-levels-in κs a = a .0
 
 abbrev levels-in-at : ℕ → In 0 levels-in-kinds.ps
 levels-in-at t = and 0 levels-in-kinds.ps (is 0 levels-in-kinds.ps μ-levels-in t) levels-in.Pre
@@ -21,7 +25,8 @@ levels-in-below t =
 levels-in-returns :
     (t : ℕ) →
     levels-in-lts.Need-returns (levels-in-below t, levels-in.Post) (levels-in-at t) levels-in.Post
-levels-in-returns t c = ?
+unfolding levelsIn
+levels-in-returns t c = simp (c .if1 .taken)
 
 -- src/records.rt:50:9
 levels-in-returns-2 :
@@ -30,21 +35,24 @@ levels-in-returns-2 :
     (levels-in-below t, levels-in.Post)
     (levels-in-at t)
     levels-in.Post
-levels-in-returns-2 t c = ?
+levels-in-returns-2 t c =
+    let h = c .before .if1 .left in
+    let k = c .if2 .taken in
+    simp (levels-is, eq-eqb)
 
 -- src/records.rt:52:15
 levels-in-sub-levels-in : (t : ℕ) → levels-in-lts.Need-sub-levels-in (
   levels-in-below t,
   levels-in.Post,
 ) (levels-in-at t) levels-in.Post
-levels-in-sub-levels-in t c = ?
+levels-in-sub-levels-in t c = search needs
 
 -- src/records.rt:52:5
 levels-in-levels-in-requires : (t : ℕ) → levels-in-lts.Need-levels-in-requires (
   levels-in-below t,
   levels-in.Post,
 ) (levels-in-at t) levels-in.Post
-levels-in-levels-in-requires t c κs = ?
+levels-in-levels-in-requires t c κs = search needs
 
 -- src/records.rt:43:1
 levels-in-returns-3 :
@@ -53,7 +61,10 @@ levels-in-returns-3 :
     (levels-in-below t, levels-in.Post)
     (levels-in-at t)
     levels-in.Post
-levels-in-returns-3 t c = ?
+levels-in-returns-3 t c =
+    let h = c .before .before .if1 .left in
+    let k = c .before .if2 .left in
+    simp (levels-is, ne-eqb) (c .levels-in .ensures)
 
 pub +levels-in-spec : {M : Type 1} → statement M
 +levels-in-spec =

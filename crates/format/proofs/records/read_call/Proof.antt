@@ -1,3 +1,6 @@
+use borrow.Author.Tests.{lt-ltb, le-ltb}
+use Rattle.format.specs.Format.{rowAt}
+use Rattle.format.proofs.Laws.{whole}
 use borrow.Author.Needs.{needs}
 use Rattle.format.proofs.records.read_call.Statement.{statement}
 use Rattle.format.proofs.records.read_call.Tie as tie
@@ -22,11 +25,18 @@ shared-slice-read-mark c = search needs
 
 -- src/records.rt:230:9
 returns : tie.Need-returns
-returns c = ?
+unfolding rowAt
+returns c =
+    let h1 = c .if1 .taken in
+    simp (whole (c .before .before .before .before .args .t .now) (c .before .before .before .before .args .at) 3 (c .before .before .before .before .pre), lt-ltb, le-ltb)
 
 -- src/records.rt:233:9
 returns-2 : tie.Need-returns-2
-returns-2 c = ?
+unfolding rowAt
+returns-2 c =
+    let h1 = c .if2 .taken in
+    let h2 = c .before .if1 .left in
+    simp (whole (c .before .before .before .before .before .args .t .now) (c .before .before .before .before .before .args .at) 3 (c .before .before .before .before .before .pre), lt-ltb, le-ltb)
 
 -- src/records.rt:240:9
 add-t6 : tie.Need-add-t6
@@ -34,7 +44,11 @@ add-t6 c = search needs
 
 -- src/records.rt:223:1
 returns-3 : tie.Need-returns-3
-returns-3 c = ?
+unfolding rowAt
+returns-3 c =
+    let h1 = c .if2 .left in
+    let h2 = c .before .if1 .left in
+    simp (whole (c .before .before .before .before .before .args .t .now) (c .before .before .before .before .before .args .at) 3 (c .before .before .before .before .before .pre), lt-ltb, le-ltb)
 
 pub read-call-spec : {M : Type 1} → statement M
 read-call-spec =

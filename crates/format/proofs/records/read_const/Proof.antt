@@ -1,3 +1,6 @@
+use borrow.Author.Tests.{lt-ltb, le-ltb}
+use Rattle.format.specs.Format.{rowAt}
+use Rattle.format.proofs.Laws.{whole}
 use borrow.Author.Needs.{needs}
 use Rattle.format.proofs.records.read_const.Statement.{statement}
 use Rattle.format.proofs.records.read_const.Tie as tie
@@ -23,7 +26,10 @@ four-requires c κs = search needs
 
 -- src/records.rt:75:9
 returns : tie.Need-returns
-returns c = ?
+unfolding rowAt
+returns c =
+    let h1 = c .if1 .taken in
+    simp (whole (c .before .before .before .before .before .args .t .now) (c .before .before .before .before .before .args .at) 6 (c .before .before .before .before .before .pre), c .before .before .four .ensures, lt-ltb, le-ltb)
 
 -- src/records.rt:77:61
 add-t6 : tie.Need-add-t6
@@ -31,7 +37,10 @@ add-t6 c = search needs
 
 -- src/records.rt:68:1
 returns-2 : tie.Need-returns-2
-returns-2 c = ?
+unfolding rowAt
+returns-2 c =
+    let h1 = c .if1 .left in
+    simp (whole (c .before .before .before .before .before .args .t .now) (c .before .before .before .before .before .args .at) 6 (c .before .before .before .before .before .pre), c .before .before .four .ensures, lt-ltb, le-ltb)
 
 pub read-const-spec : {M : Type 1} → statement M
 read-const-spec =

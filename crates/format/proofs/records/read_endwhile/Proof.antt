@@ -1,3 +1,5 @@
+use Rattle.format.specs.Format.{rowAt}
+use Rattle.format.proofs.Laws.{whole}
 use borrow.Author.Needs.{needs}
 use Rattle.format.proofs.records.read_endwhile.Statement.{statement}
 use Rattle.format.proofs.records.read_endwhile.Tie as tie
@@ -19,7 +21,9 @@ add-t5 c = search needs
 
 -- src/records.rt:280:1
 returns : tie.Need-returns
-returns c = ?
+unfolding rowAt
+returns c =
+    simp (whole (c .before .before .args .t .now) (c .before .before .args .at) 3 (c .before .before .pre), c .place-at .ensures .0)
 
 pub read-endwhile-spec : {M : Type 1} → statement M
 read-endwhile-spec = tie.close (tie.spec add-place-at place-at-requires add-t5 returns)

@@ -1,3 +1,6 @@
+use borrow.Author.Tests.{lt-ltb, le-ltb}
+use Rattle.format.specs.Format.{rowAt}
+use Rattle.format.proofs.Laws.{whole}
 use borrow.Author.Needs.{needs}
 use Rattle.format.proofs.records.read_if.Statement.{statement}
 use Rattle.format.proofs.records.read_if.Tie as tie
@@ -23,7 +26,10 @@ place-at-requires c κs = search needs
 
 -- src/records.rt:251:9
 returns : tie.Need-returns
-returns c = ?
+unfolding rowAt
+returns c =
+    let h1 = c .if1 .taken in
+    simp (whole (c .before .before .before .before .before .args .t .now) (c .before .before .before .before .before .args .at) 4 (c .before .before .before .before .before .pre), c .before .before .place-at .ensures .0, lt-ltb, le-ltb)
 
 -- src/records.rt:253:47
 add-t6 : tie.Need-add-t6
@@ -31,7 +37,10 @@ add-t6 c = search needs
 
 -- src/records.rt:244:1
 returns-2 : tie.Need-returns-2
-returns-2 c = ?
+unfolding rowAt
+returns-2 c =
+    let h1 = c .if1 .left in
+    simp (whole (c .before .before .before .before .before .args .t .now) (c .before .before .before .before .before .args .at) 4 (c .before .before .before .before .before .pre), c .before .before .place-at .ensures .0, lt-ltb, le-ltb)
 
 pub read-if-spec : {M : Type 1} → statement M
 read-if-spec =

@@ -1,3 +1,6 @@
+use borrow.Author.Tests.{lt-ltb, le-ltb}
+use Rattle.format.specs.Format.{rowAt}
+use Rattle.format.proofs.Laws.{whole}
 use borrow.Author.Needs.{needs}
 use Rattle.format.proofs.records.read_load.Statement.{statement}
 use Rattle.format.proofs.records.read_load.Tie as tie
@@ -30,15 +33,27 @@ shared-slice-read-index c = search needs
 
 -- src/records.rt:150:9
 returns : tie.Need-returns
-returns c = ?
+unfolding rowAt
+returns c =
+    let h1 = c .if1 .taken in
+    simp (whole (c .before .before .before .before .before .args .t .now) (c .before .before .before .before .before .args .at) 4 (c .before .before .before .before .before .pre), lt-ltb, le-ltb)
 
 -- src/records.rt:153:9
 returns-2 : tie.Need-returns-2
-returns-2 c = ?
+unfolding rowAt
+returns-2 c =
+    let h1 = c .if2 .taken in
+    let h2 = c .before .before .if1 .left in
+    simp (whole (c .before .before .before .before .before .before .before .args .t .now) (c .before .before .before .before .before .before .before .args .at) 4 (c .before .before .before .before .before .before .before .pre), lt-ltb, le-ltb)
 
 -- src/records.rt:156:9
 returns-3 : tie.Need-returns-3
-returns-3 c = ?
+unfolding rowAt
+returns-3 c =
+    let h1 = c .if3 .taken in
+    let h2 = c .before .before .if2 .left in
+    let h3 = c .before .before .before .before .if1 .left in
+    simp (whole (c .before .before .before .before .before .before .before .before .before .args .t .now) (c .before .before .before .before .before .before .before .before .before .args .at) 4 (c .before .before .before .before .before .before .before .before .before .pre), lt-ltb, le-ltb)
 
 -- src/records.rt:158:67
 add-t7 : tie.Need-add-t7
@@ -46,7 +61,12 @@ add-t7 c = search needs
 
 -- src/records.rt:142:1
 returns-4 : tie.Need-returns-4
-returns-4 c = ?
+unfolding rowAt
+returns-4 c =
+    let h1 = c .if3 .left in
+    let h2 = c .before .before .if2 .left in
+    let h3 = c .before .before .before .before .if1 .left in
+    simp (whole (c .before .before .before .before .before .before .before .before .before .args .t .now) (c .before .before .before .before .before .before .before .before .before .args .at) 4 (c .before .before .before .before .before .before .before .before .before .pre), lt-ltb, le-ltb)
 
 pub read-load-spec : {M : Type 1} → statement M
 read-load-spec =

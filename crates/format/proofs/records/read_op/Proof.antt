@@ -1,3 +1,6 @@
+use borrow.Author.Tests.{lt-ltb, le-ltb}
+use Rattle.format.specs.Format.{rowAt}
+use Rattle.format.proofs.Laws.{whole}
 use borrow.Author.Needs.{needs}
 use Rattle.format.proofs.records.read_op.Statement.{statement}
 use Rattle.format.proofs.records.read_op.Tie as tie
@@ -38,19 +41,37 @@ shared-slice-read-right c = search needs
 
 -- src/records.rt:89:9
 returns : tie.Need-returns
-returns c = ?
+unfolding rowAt
+returns c =
+    let h1 = c .if1 .taken in
+    simp (whole (c .before .before .before .before .before .before .args .t .now) (c .before .before .before .before .before .before .args .at) 5 (c .before .before .before .before .before .before .pre), lt-ltb, le-ltb)
 
 -- src/records.rt:92:9
 returns-2 : tie.Need-returns-2
-returns-2 c = ?
+unfolding rowAt
+returns-2 c =
+    let h1 = c .if2 .taken in
+    let h2 = c .before .if1 .left in
+    simp (whole (c .before .before .before .before .before .before .before .args .t .now) (c .before .before .before .before .before .before .before .args .at) 5 (c .before .before .before .before .before .before .before .pre), lt-ltb, le-ltb)
 
 -- src/records.rt:95:9
 returns-3 : tie.Need-returns-3
-returns-3 c = ?
+unfolding rowAt
+returns-3 c =
+    let h1 = c .if3 .taken in
+    let h2 = c .before .before .if2 .left in
+    let h3 = c .before .before .before .if1 .left in
+    simp (whole (c .before .before .before .before .before .before .before .before .before .args .t .now) (c .before .before .before .before .before .before .before .before .before .args .at) 5 (c .before .before .before .before .before .before .before .before .before .pre), lt-ltb, le-ltb)
 
 -- src/records.rt:98:9
 returns-4 : tie.Need-returns-4
-returns-4 c = ?
+unfolding rowAt
+returns-4 c =
+    let h1 = c .if4 .taken in
+    let h2 = c .before .before .if3 .left in
+    let h3 = c .before .before .before .before .if2 .left in
+    let h4 = c .before .before .before .before .before .if1 .left in
+    simp (whole (c .before .before .before .before .before .before .before .before .before .before .before .args .t .now) (c .before .before .before .before .before .before .before .before .before .before .before .args .at) 5 (c .before .before .before .before .before .before .before .before .before .before .before .pre), lt-ltb, le-ltb)
 
 -- src/records.rt:107:9
 add-t8 : tie.Need-add-t8
@@ -58,7 +79,13 @@ add-t8 c = search needs
 
 -- src/records.rt:80:1
 returns-5 : tie.Need-returns-5
-returns-5 c = ?
+unfolding rowAt
+returns-5 c =
+    let h1 = c .if4 .left in
+    let h2 = c .before .before .if3 .left in
+    let h3 = c .before .before .before .before .if2 .left in
+    let h4 = c .before .before .before .before .before .if1 .left in
+    simp (whole (c .before .before .before .before .before .before .before .before .before .before .before .args .t .now) (c .before .before .before .before .before .before .before .before .before .before .before .args .at) 5 (c .before .before .before .before .before .before .before .before .before .before .before .pre), lt-ltb, le-ltb)
 
 pub read-op-spec : {M : Type 1} → statement M
 read-op-spec =

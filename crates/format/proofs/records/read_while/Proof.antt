@@ -1,3 +1,7 @@
+use mathlib.Core.Path.{sym, _∙_}
+use borrow.Author.Tests.{lt-ltb, le-ltb, not-true, not-false}
+use Rattle.format.specs.Format.{rowAt}
+use Rattle.format.proofs.Laws.{whole}
 use borrow.Author.Needs.{needs}
 use Rattle.format.proofs.records.read_while.Statement.{statement}
 use Rattle.format.proofs.records.read_while.Tie as tie
@@ -33,7 +37,11 @@ packed-at-requires c κs = search needs
 
 -- src/records.rt:272:9
 returns : tie.Need-returns
-returns c = ?
+unfolding rowAt
+returns c =
+    let h1 = c .if1 .taken in
+    let v = c .before .before .packed-at .ensures in
+    simp (whole (c .before .before .before .before .before .before .args .t .now) (c .before .before .before .before .before .before .args .at) 11 (c .before .before .before .before .before .before .pre), c .before .before .before .place-at .ensures .0, v, lt-ltb, le-ltb)
 
 -- src/records.rt:274:9
 packed-in-requires : tie.Need-packed-in-requires
@@ -41,7 +49,12 @@ packed-in-requires c κs = search needs
 
 -- src/records.rt:275:9
 returns-2 : tie.Need-returns-2
-returns-2 c = ?
+unfolding rowAt
+returns-2 c =
+    let h1 = c .before .before .if1 .left in
+    let v = c .before .before .before .before .packed-at .ensures in
+    let e = simp v at (sym (c .before .packed-in .ensures) ∙ not-true _ (c .if2 .taken)) in
+    simp (whole (c .before .before .before .before .before .before .before .before .args .t .now) (c .before .before .before .before .before .before .before .before .args .at) 11 (c .before .before .before .before .before .before .before .before .pre), c .before .before .before .before .before .place-at .ensures .0, v, e, lt-ltb, le-ltb)
 
 -- src/records.rt:277:55
 add-t7 : tie.Need-add-t7
@@ -49,7 +62,12 @@ add-t7 c = search needs
 
 -- src/records.rt:264:1
 returns-3 : tie.Need-returns-3
-returns-3 c = ?
+unfolding rowAt
+returns-3 c =
+    let h1 = c .before .before .if1 .left in
+    let v = c .before .before .before .before .packed-at .ensures in
+    let e = simp v at (sym (c .before .packed-in .ensures) ∙ not-false _ (c .if2 .left)) in
+    simp (whole (c .before .before .before .before .before .before .before .before .args .t .now) (c .before .before .before .before .before .before .before .before .args .at) 11 (c .before .before .before .before .before .before .before .before .pre), c .before .before .before .before .before .place-at .ensures .0, v, e, lt-ltb, le-ltb)
 
 pub read-while-spec : {M : Type 1} → statement M
 read-while-spec =
