@@ -16,6 +16,7 @@ use Rattle.model.specs.declared.Simple.the-variants.{Init}
 use Rattle.model.specs.declared.Record.the-variants.{Do, Endif, Return}
 use Rattle.format.specs.declared.Decoded.the-variants.{Got, Bad}
 use Rattle.format.specs.Format.{byte, word16, shaped, Row, rowsOf, byRow, rowAt, decodeAt, lengthIn, codeLength}
+use Rattle.format.specs.Head.{then, arrayAt, signatureAt, arraysAt, signaturesAt}
 
 -- past the end there are zeros
 pub past : (t : List ℕ) (p : ℕ) → length t ≤ p → 0 ≡ byte t p
@@ -76,3 +77,14 @@ decode-none z t at l h = rw (lt-leb (length t) at l) (none t at (byte t at) (row
 pub decode-short : (z : Sizes) (t : List ℕ) (at : ℕ) → at < length t → length t - at < codeLength (byte t at) → decodeAt z t at ≡ Bad 2 at
 unfolding codeLength rowAt decodeAt
 decode-short z t at l h = rw (lt-leb (length t) at l) (short t at (byte t at) (rowsOf z t at) h)
+
+-- the records before the code, one less
+pub arrays-is : (t : List ℕ) (n at : ℕ) → (n ≡ 0 → ⊥) → arraysAt t n at ≡ then (arrayAt t at) (arraysAt t (n - 1))
+unfolding arraysAt
+arrays-is t zero at h = absurd (h refl)
+arrays-is t (suc n) at h = rw sub-one
+
+pub signatures-is : (z : Sizes) (t : List ℕ) (n at : ℕ) → (n ≡ 0 → ⊥) → signaturesAt z t n at ≡ then (signatureAt z t (n - 1) at) (signaturesAt z t (n - 1))
+unfolding signaturesAt
+signatures-is z t zero at h = absurd (h refl)
+signatures-is z t (suc n) at h = rw sub-one

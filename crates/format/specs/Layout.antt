@@ -72,13 +72,15 @@ record-fits z t p = go (decodeAt z t p) refl
     go (Got r n) e = good z t p e .fits
     go (Bad n q) e = tt
 
--- THE TABLE that bytes stand for
-abbrev pub tableOf : List ℕ → Table
-tableOf t = let z : Sizes = sizesOf t in record {
+-- THE TABLE that bytes stand for, by the sizes z; and by their own sizes
+abbrev pub tableWith : Sizes → List ℕ → Table
+tableWith z t = record {
   rec = recordOf z t;
   registers = z .registers;
+  arrays = z .arrays;
   words = wordsFrom z t (z .arrays) 0;
-  fits = λ p. subst (λ (m : ℕ). Fits (z .registers) m (recordOf z t p)) (sym (words-count z t (z .arrays) 0)) (record-fits z t p);
+  counted = words-count z t (z .arrays) 0;
+  fits = record-fits z t;
   functions = z .functions;
   start = startOf z t;
   ret = returnOf z t;
@@ -86,3 +88,6 @@ tableOf t = let z : Sizes = sizesOf t in record {
   leave = λ f. envOf (outOf z t f);
   site = λ p q. scan (recordOf z t) (length t) (length t) (startOf z t 0) (homeOf (startOf z t) (z .functions) p) q;
 }
+
+abbrev pub tableOf : List ℕ → Table
+tableOf t = tableWith (sizesOf t) t

@@ -1,3 +1,4 @@
 pub mod Format
+pub mod Head
 pub mod Laws
 pub mod Layout

@@ -1,15 +1,20 @@
 // Document 01, "Table layout": the bytes of a table.
 //
-// records.rt: one record of code. layout.rt: the sizes, the arrays, the signatures. Here: the numbers they are made of.
+// records.rt: one record of code. head.rt: the records before it, read. layout.rt: what they say, read off once more.
+// Here: the numbers they are made of.
 use model::Packed;
 use model::Record;
 ghost use mathlib.Core.Path.{_≡_};
 ghost use Prim.Native.Nat.{_+_, _<_};
 ghost use Rattle.format.specs.Format.{byte, word16, word32, packedAt};
 
+mod head;
 mod layout;
 mod records;
 
+pub use head::arrays;
+pub use head::signatures;
+pub use head::sizes;
 pub use layout::in_of;
 pub use layout::out_of;
 pub use layout::signature_place;
@@ -24,6 +29,12 @@ pub use records::packed_in;
 pub enum Decoded {
     Got(Record, usize),
     Bad(u8, usize),
+}
+
+// A place to go on at, or a fault.
+pub enum To {
+    At(usize),
+    Fault(u8, usize),
 }
 
 fn wide(x: u8) -> u32

@@ -6,7 +6,7 @@ use lib.Dec.{eqb}
 use borrow.Author.Tests.{eqb-true, eq-eqb}
 use Rattle.model.specs.Tests.{Decides}
 use Rattle.model.specs.Levels.{Env, Within, within, within-is, sameStatus, same-status-is}
-use Rattle.model.specs.Table.{Table, arrayCount}
+use Rattle.model.specs.Table.{Table}
 use Rattle.model.specs.Rules.{Needs, NeedsOf, typing}
 use Rattle.model.specs.Walk.{Tests, Right}
 use Rattle.model.specs.declared.Status.the-variants.{Updated, Outdated}
@@ -67,7 +67,7 @@ meets-is (Protect d s) E = same-status-is (E .status) Updated
 module _ (t : Table) where
   abbrev pub meetsOf : Record → Env → Bool
   meetsOf (Do s) E = meets s E
-  meetsOf (Call f m) E = within (t .registers) (arrayCount t) E (t .enter f)
+  meetsOf (Call f m) E = within (t .registers) (t .arrays) E (t .enter f)
   meetsOf (If r e) E = true
   meetsOf (Else n) E = true
   meetsOf Endif E = true
@@ -77,7 +77,7 @@ module _ (t : Table) where
 
   meets-of-is : (i : Record) (E : Env) → Decides (NeedsOf t i E) (meetsOf i E)
   meets-of-is (Do s) E = meets-is s E
-  meets-of-is (Call f m) E = within-is (t .registers) (arrayCount t) E (t .enter f)
+  meets-of-is (Call f m) E = within-is (t .registers) (t .arrays) E (t .enter f)
   meets-of-is (If r e) E = asks-nothing
   meets-of-is (Else n) E = asks-nothing
   meets-of-is Endif E = asks-nothing
@@ -86,7 +86,7 @@ module _ (t : Table) where
   meets-of-is Return E = asks-nothing
 
   abbrev pub typingTests : Tests (typing t)
-  typingTests = record { within = within (t .registers) (arrayCount t); public = λ E r. eqb (E .regs r) 0; meets = meetsOf; number = numberOf }
+  typingTests = record { within = within (t .registers) (t .arrays); public = λ E r. eqb (E .regs r) 0; meets = meetsOf; number = numberOf }
 
   pub typing-right : (g : ℕ) → Right (typing t) typingTests g
-  typing-right g = record { within = within-is (t .registers) (arrayCount t); public = λ E r. level-is (E .regs r); meets = meets-of-is }
+  typing-right g = record { within = within-is (t .registers) (t .arrays); public = λ E r. level-is (E .regs r); meets = meets-of-is }

@@ -10,7 +10,7 @@ use Rattle.model.specs.Tests.{pick, same, test}
 use Rattle.model.specs.Levels.{Env, Covers, Within, join, within-refl, within-trans, join-left, join-right, join-least}
 use Rattle.model.specs.Records.{SimpleFits, Fits}
 use Rattle.model.specs.Packing.{envOf}
-use Rattle.model.specs.Table.{Table, arrayCount}
+use Rattle.model.specs.Table.{Table}
 use Rattle.model.specs.Rules.{kill, guardStatus, settle, written, guarded, beside, Needs, after, NeedsOf, afterOf, typing}
 use Rattle.model.specs.Blocks.{Types, done, one, branch, loop}
 use Rattle.model.specs.declared.Status.{Status}
@@ -96,11 +96,11 @@ join-mono n m E E′ F F′ w v =
 
 module _ (t : Table) where
   abbrev In : Env → Env → Type 0
-  In = Within (t .registers) (arrayCount t)
+  In = Within (t .registers) (t .arrays)
 
-  pub needs-of-down : (i : Record) (E F : Env) → Fits (t .registers) (arrayCount t) i → In E F → NeedsOf t i F → NeedsOf t i E
-  needs-of-down (Do s) E F f w h = needs-down (t .registers) (arrayCount t) E F w s f h
-  needs-of-down (Call g m) E F f w h = within-trans (t .registers) (arrayCount t) E F (t .enter g) w h
+  pub needs-of-down : (i : Record) (E F : Env) → Fits (t .registers) (t .arrays) i → In E F → NeedsOf t i F → NeedsOf t i E
+  needs-of-down (Do s) E F f w h = needs-down (t .registers) (t .arrays) E F w s f h
+  needs-of-down (Call g m) E F f w h = within-trans (t .registers) (t .arrays) E F (t .enter g) w h
   needs-of-down (If r e) E F f w h = h
   needs-of-down (Else n) E F f w h = h
   needs-of-down Endif E F f w h = h
@@ -108,9 +108,9 @@ module _ (t : Table) where
   needs-of-down (Endwhile e) E F f w h = h
   needs-of-down Return E F f w h = h
 
-  pub after-of-mono : (i : Record) (E F : Env) → Fits (t .registers) (arrayCount t) i → In E F → In (afterOf t i E) (afterOf t i F)
-  after-of-mono (Do s) E F f w = after-mono (t .registers) (arrayCount t) E F w s f
-  after-of-mono (Call g m) E F f w = within-refl (t .registers) (arrayCount t) _
+  pub after-of-mono : (i : Record) (E F : Env) → Fits (t .registers) (t .arrays) i → In E F → In (afterOf t i E) (afterOf t i F)
+  after-of-mono (Do s) E F f w = after-mono (t .registers) (t .arrays) E F w s f
+  after-of-mono (Call g m) E F f w = within-refl (t .registers) (t .arrays) _
   after-of-mono (If r e) E F f w = w
   after-of-mono (Else n) E F f w = w
   after-of-mono Endif E F f w = w
@@ -118,8 +118,8 @@ module _ (t : Table) where
   after-of-mono (Endwhile e) E F f w = w
   after-of-mono Return E F f w = w
 
-  fits-at : (p : ℕ) (i : Record) → t .rec p ≡ i → Fits (t .registers) (arrayCount t) i
-  fits-at p i e = subst (Fits (t .registers) (arrayCount t)) e (t .fits p)
+  fits-at : (p : ℕ) (i : Record) → t .rec p ≡ i → Fits (t .registers) (t .arrays) i
+  fits-at p i e = subst (Fits (t .registers) (t .arrays)) e (t .fits p)
 
   -- what types from F types from any E within it, and ends within where F ends
   pub types-mono : {g p q : ℕ} {F F′ : Env} (E : Env) → In E F → Types t (typing t) g p F q F′ → (E′ : Env) × Types t (typing t) g p E q E′ × In E′ F′
@@ -128,9 +128,9 @@ module _ (t : Table) where
       let x = types-mono (afterOf t (t .rec p) E) (after-of-mono (t .rec p) E F (t .fits p) w) d in
       (x .0, one i (needs-of-down (t .rec p) E F (t .fits p) w n) (x .1), x .2)
   types-mono E w (branch {p = p} {e = e} {r = r} {E = F} {E₁ = F₁} {E₂ = F₂} i g a j b k c) =
-      let x = types-mono (guarded E r true) (guarded-mono (t .registers) (arrayCount t) E F w r true) a in
-      let y = types-mono (guarded E r false) (guarded-mono (t .registers) (arrayCount t) E F w r false) b in
-      let z = types-mono (join (x .0) (y .0)) (join-mono (t .registers) (arrayCount t) (x .0) (y .0) F₁ F₂ (x .2) (y .2)) c in
-      (z .0, branch i (public-down (t .registers) (arrayCount t) E F w r (fits-at p (If r e) i) g) (x .1) j (y .1) k (z .1), z .2)
+      let x = types-mono (guarded E r true) (guarded-mono (t .registers) (t .arrays) E F w r true) a in
+      let y = types-mono (guarded E r false) (guarded-mono (t .registers) (t .arrays) E F w r false) b in
+      let z = types-mono (join (x .0) (y .0)) (join-mono (t .registers) (t .arrays) (x .0) (y .0) F₁ F₂ (x .2) (y .2)) c in
+      (z .0, branch i (public-down (t .registers) (t .arrays) E F w r (fits-at p (If r e) i) g) (x .1) j (y .1) k (z .1), z .2)
   types-mono E w (loop {E = F} {F = F′} {L = L} i v g a j u c) =
-      (F′, loop i (within-trans (t .registers) (arrayCount t) E F (envOf L) w v) g a j u c, within-refl (t .registers) (arrayCount t) F′)
+      (F′, loop i (within-trans (t .registers) (t .arrays) E F (envOf L) w v) g a j u c, within-refl (t .registers) (t .arrays) F′)

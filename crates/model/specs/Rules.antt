@@ -7,7 +7,7 @@ use lib.Dec.{eqb, leb, ltb}
 use Rattle.model.specs.Tests.{pick, put}
 use Rattle.model.specs.Levels.{Env, Within, join, within-refl, within-trans, join-left, join-right}
 use Rattle.model.specs.Packing.{envOf}
-use Rattle.model.specs.Table.{Table, arrayCount}
+use Rattle.model.specs.Table.{Table}
 use Rattle.model.specs.Blocks.{Rules, Every}
 use Rattle.model.specs.declared.Status.{Status}
 use Rattle.model.specs.declared.Status.the-variants.{Unknown, Updated, Outdated}
@@ -47,6 +47,26 @@ beside m l b v = pick (ltb b m) (max v (min 1 l)) v
 abbrev pub written : Env → ℕ → ℕ → Env
 written E d l = record { status = kill d (E .status); regs = put (E .regs) d l; arrays = E .arrays }
 
+-- register s is stored into array a of m
+abbrev pub stored : ℕ → Env → ℕ → ℕ → Env
+stored m E a s = record {
+  status = E .status;
+  regs = E .regs;
+  arrays = put (λ b. beside m (E .regs s) b (E .arrays b)) a (max (E .arrays a) (E .regs s));
+}
+
+-- INIT
+abbrev pub fenced : Env → Env
+fenced E = record { status = Updated; regs = λ i. settle (E .regs i); arrays = E .arrays }
+
+-- UPDATE
+abbrev pub updated : Env → Env
+updated E = record { status = Updated; regs = E .regs; arrays = E .arrays }
+
+-- PROTECT of s into d
+abbrev pub protected : Env → ℕ → ℕ → Env
+protected E d s = record { status = Updated; regs = put (E .regs) d (settle (E .regs s)); arrays = E .arrays }
+
 -- entering a block when register r is not zero (true) or zero (false)
 abbrev pub guarded : Env → ℕ → Bool → Env
 guarded E r s = record { status = guardStatus r s (E .status); regs = E .regs; arrays = E .arrays }
@@ -68,14 +88,10 @@ after m (Const d v) E = written E d 0
 after m (Op d o l r) E = written E d (max (E .regs l) (E .regs r))
 after m (Select d c y n) E = written E d (max (E .regs c) (max (E .regs y) (E .regs n)))
 after m (Load d a i) E = written E d (max 1 (E .arrays a))
-after m (Store a i s) E = record {
-  status = E .status;
-  regs = E .regs;
-  arrays = put (λ b. beside m (E .regs s) b (E .arrays b)) a (max (E .arrays a) (E .regs s));
-}
-after m Init E = record { status = Updated; regs = λ i. settle (E .regs i); arrays = E .arrays }
-after m (Update r s) E = record { status = Updated; regs = E .regs; arrays = E .arrays }
-after m (Protect d s) E = record { status = Updated; regs = put (E .regs) d (settle (E .regs s)); arrays = E .arrays }
+after m (Store a i s) E = stored m E a s
+after m Init E = fenced E
+after m (Update r s) E = updated E
+after m (Protect d s) E = protected E d s
 
 -- after a CALL: the callee's out levels. (The environment before it does not count; order 8 will use it.)
 abbrev pub returned : Env → Bool → Env → Env
@@ -84,7 +100,7 @@ returned out mark E = record { status = callStatus mark (out .status); regs = ou
 module _ (t : Table) where
   abbrev pub NeedsOf : Record → Env → Type 0
   NeedsOf (Do s) E = Needs s E
-  NeedsOf (Call f m) E = Within (t .registers) (arrayCount t) E (t .enter f)
+  NeedsOf (Call f m) E = Within (t .registers) (t .arrays) E (t .enter f)
   NeedsOf (If r e) E = Unit {0}
   NeedsOf (Else n) E = Unit {0}
   NeedsOf Endif E = Unit {0}
@@ -93,7 +109,7 @@ module _ (t : Table) where
   NeedsOf Return E = Unit {0}
 
   abbrev pub afterOf : Record → Env → Env
-  afterOf (Do s) E = after (arrayCount t) s E
+  afterOf (Do s) E = after (t .arrays) s E
   afterOf (Call f m) E = returned (t .leave f) m E
   afterOf (If r e) E = E
   afterOf (Else n) E = E
@@ -106,12 +122,12 @@ module _ (t : Table) where
 abbrev pub typing : Table → Rules
 typing t = record {
   Env = Env;
-  Within = Within (t .registers) (arrayCount t);
-  within-refl = within-refl (t .registers) (arrayCount t);
-  within-trans = within-trans (t .registers) (arrayCount t);
+  Within = Within (t .registers) (t .arrays);
+  within-refl = within-refl (t .registers) (t .arrays);
+  within-trans = within-trans (t .registers) (t .arrays);
   join = join;
-  join-left = join-left (t .registers) (arrayCount t);
-  join-right = join-right (t .registers) (arrayCount t);
+  join-left = join-left (t .registers) (t .arrays);
+  join-right = join-right (t .registers) (t .arrays);
   Needs = λ g. NeedsOf t;
   after = afterOf t;
   Public = λ E r. E .regs r ≡ 0;

@@ -1,5 +1,6 @@
 -- A table as its reader sees it: the record at each place, the sizes, the signatures, the call sites.
 use Prim.Native.Nat.{ℕ, _-_}
+use mathlib.Core.Path.{_≡_}
 use mathlib.Core.Bool.{Bool}
 use mathlib.Core.List.{List}
 use mathlib.Core.Option.{Option}
@@ -11,8 +12,10 @@ use Rattle.model.specs.declared.Record.{Record}
 pub record Table : Type 0 where
   pub rec : ℕ → Record  -- the record at a place
   pub registers : ℕ
+  pub arrays : ℕ
   pub words : List ℕ  -- the words of each array
-  pub fits : (p : ℕ) → Fits registers (length words) (rec p)
+  pub counted : length words ≡ arrays
+  pub fits : (p : ℕ) → Fits registers arrays (rec p)
   pub functions : ℕ
   pub start : ℕ → ℕ  -- of a function: its first place
   pub ret : ℕ → ℕ  -- of a function: its RETURN
@@ -23,6 +26,3 @@ pub record Table : Type 0 where
 -- the last function
 abbrev pub entry : Table → ℕ
 entry t = t .functions - 1
-
-abbrev pub arrayCount : Table → ℕ
-arrayCount t = length (t .words)

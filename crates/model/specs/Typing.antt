@@ -8,20 +8,17 @@ use Rattle.model.specs.Blocks.{Types, TypesFunction, Every}
 use Rattle.model.specs.Rules.{typing, Typed, reading}
 use Rattle.model.specs.Faults.{FaultsFunction, FirstFault}
 use Rattle.model.specs.Places.{nesting}
-use Rattle.model.specs.Walk.{Walked, Next, Shut, Fault, functionAt}
+use Rattle.model.specs.Walk.{Walked, Next, Shut, Fault as Halt, functionAt}
+use Rattle.model.specs.declared.Typing.{Typing}
+use Rattle.model.specs.declared.Typing.the-variants.{Passes as passes, Fault}
 use Rattle.model.specs.Decide.{numberOf, typingTests, typing-right}
 use Rattle.model.specs.Passes.{Verdict, verdict, Passes, passes-types}
 use Rattle.model.specs.Levels.{Env}
 
--- what typing answers: all functions type, or the first fault's number and place
-pub data Typing : Type 0 where
-  passes : Typing
-  fault : (number place : ℕ) → Typing
-
 abbrev pub onPass : Walked Env → Typing → Typing
-onPass (Next p E) w = fault 3 p
+onPass (Next p E) w = Fault 3 p
 onPass (Shut p E) w = w
-onPass (Fault n p) w = fault n p
+onPass (Halt n p) w = Fault n p
 
 module _ (t : Table) (size : ℕ) where
   -- the last n functions
@@ -40,7 +37,7 @@ module _ (t : Table) (size : ℕ) where
 
   abbrev Says : Typing → Type 0
   Says passes = Typed t
-  Says (fault n p) = FirstFault t (typing t) numberOf n p
+  Says (Fault n p) = FirstFault t (typing t) numberOf n p
 
   module _ (read : (g : ℕ) → g < t .functions → Read g) where
     abbrev Before : ℕ → Type 0
@@ -66,7 +63,7 @@ module _ (t : Table) (size : ℕ) where
         go : (w : Walked Env) → Verdict t (typing t) (typingTests t) (t .functions - suc n) size (typing-right t (t .functions - suc n)) w → (Before (t .functions - n) → Says (typeFrom n)) → Says (onPass w (typeFrom n))
         go (Next p E) v ih = absurd v
         go (Shut p E) v ih = ih (more v)
-        go (Fault m p) v ih = record { function = t .functions - suc n; lies = omega arith; before = b; meets = v }
+        go (Halt m p) v ih = record { function = t .functions - suc n; lies = omega arith; before = b; meets = v }
 
     -- what typing answers holds: a pass is a derivation for every function, a fault is the first fault
     pub type-says : Says typeAll
@@ -84,7 +81,7 @@ module _ (t : Table) (size : ℕ) where
         go : (w : Walked Env) → Passes t (typing t) (typingTests t) (t .functions - suc n) size (typing-right t (t .functions - suc n)) w → typeFrom n ≡ passes → onPass w (typeFrom n) ≡ passes
         go (Next p E) h ih = absurd h
         go (Shut p E) h ih = ih
-        go (Fault m p) h ih = absurd h
+        go (Halt m p) h ih = absurd h
 
     -- typing passes exactly the tables whose every function the rules type
     pub passes-typed : (typeAll ≡ passes) ↔ Typed t

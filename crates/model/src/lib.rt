@@ -98,6 +98,12 @@ pub enum Walked {
     Fault(u8, usize),
 }
 
+// What the typing of a table answers: every function types, or the first fault.
+pub enum Typing {
+    Passes,
+    Fault(u8, usize),
+}
+
 // The bytes of a simple record, the kind byte counted.
 pub fn simple_length(s: Simple) -> usize
     ensures { λ r. ⌜ r ≡ simpleLength s ⌝ }

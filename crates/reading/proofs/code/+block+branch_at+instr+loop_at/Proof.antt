@@ -1,0 +1,1091 @@
+use Prim.Native.Nat.{ℕ, _<_, _≤_, _+_, _*_, _-_}
+use native.Mathlib.Omega.{arith}
+use borrow.Author.Needs.{needs}
+use mathlib.Core.Path.{_≡_, refl, sym, subst, _∙_}
+use lib.ListN.{length}
+use Rattle.reading.specs.Reading.{ifWith, whileWith, blockWith, instrAt, blockAt}
+use Rattle.reading.specs.Steps.{Ok, instr-ok}
+use Rattle.reading.proofs.Laws.{instr-is, if-is, if-met, if-missed, while-is, while-met, while-missed, shut-one, shut-else, shut-endwhile, turn-next, turn-shut, turn-fault}
+use borrow.Fn.Kinds.{In}
+use borrow.Fn.PlainCycle.{Measures, is, falls, and}
+use Rattle.reading.proofs.code.block.Reads as block
+use Rattle.reading.proofs.code.block.Kinds as block-kinds
+use Rattle.reading.proofs.code.+block+branch_at+instr+loop_at.Lts-block as block-lts
+use Rattle.reading.proofs.code.branch_at.Reads as branch-at
+use Rattle.reading.proofs.code.branch_at.Kinds as branch-at-kinds
+use Rattle.reading.proofs.code.+block+branch_at+instr+loop_at.Lts-branch_at as branch-at-lts
+use Rattle.reading.proofs.code.instr.Reads as instr
+use Rattle.reading.proofs.code.instr.Kinds as instr-kinds
+use Rattle.reading.proofs.code.+block+branch_at+instr+loop_at.Lts-instr as instr-lts
+use Rattle.reading.proofs.code.loop_at.Reads as loop-at
+use Rattle.reading.proofs.code.loop_at.Kinds as loop-at-kinds
+use Rattle.reading.proofs.code.+block+branch_at+instr+loop_at.Lts-loop_at as loop-at-lts
+use Rattle.format.proofs.place_at.Reads as place-at-reads
+use Rattle.reading.proofs.code.call_at.Reads as call-at-reads
+use Rattle.reading.proofs.code.met_at.Reads as met-at-reads
+use Rattle.reading.proofs.code.record.Reads as record-reads
+use Rattle.reading.proofs.code.+block+branch_at+instr+loop_at.{statement}
+use Rattle.reading.proofs.code.+block+branch_at+instr+loop_at.Tie.{close}
+
+abbrev μ-block : Measures 1 block-kinds.ps ℕ
+μ-block κs a = 3 * a .1 .1 .1 .1 .1 .0 + 2
+
+abbrev μ-branch-at : Measures 1 branch-at-kinds.ps ℕ
+μ-branch-at κs a = 3 * a .1 .1 .1 .1 .1 .1 .0
+
+abbrev μ-instr : Measures 1 instr-kinds.ps ℕ
+μ-instr κs a = 3 * a .1 .1 .1 .1 .1 .0 + 1
+
+abbrev μ-loop-at : Measures 1 loop-at-kinds.ps ℕ
+μ-loop-at κs a = 3 * a .1 .1 .1 .1 .1 .1 .0
+
+abbrev block-at : ℕ → In 1 block-kinds.ps
+block-at t = and 1 block-kinds.ps (is 1 block-kinds.ps μ-block t) block.Pre
+
+abbrev block-below : ℕ → In 1 block-kinds.ps
+block-below t = and 1 block-kinds.ps (falls 1 block-kinds.ps _<_ μ-block t) block.Pre
+
+abbrev branch-at-at : ℕ → In 1 branch-at-kinds.ps
+branch-at-at t = and 1 branch-at-kinds.ps (is 1 branch-at-kinds.ps μ-branch-at t) branch-at.Pre
+
+abbrev branch-at-below : ℕ → In 1 branch-at-kinds.ps
+branch-at-below t =
+    and 1 branch-at-kinds.ps (falls 1 branch-at-kinds.ps _<_ μ-branch-at t) branch-at.Pre
+
+abbrev instr-at : ℕ → In 1 instr-kinds.ps
+instr-at t = and 1 instr-kinds.ps (is 1 instr-kinds.ps μ-instr t) instr.Pre
+
+abbrev instr-below : ℕ → In 1 instr-kinds.ps
+instr-below t = and 1 instr-kinds.ps (falls 1 instr-kinds.ps _<_ μ-instr t) instr.Pre
+
+abbrev loop-at-at : ℕ → In 1 loop-at-kinds.ps
+loop-at-at t = and 1 loop-at-kinds.ps (is 1 loop-at-kinds.ps μ-loop-at t) loop-at.Pre
+
+abbrev loop-at-below : ℕ → In 1 loop-at-kinds.ps
+loop-at-below t = and 1 loop-at-kinds.ps (falls 1 loop-at-kinds.ps _<_ μ-loop-at t) loop-at.Pre
+
+abbrev block-Inv-loop : block-lts.InvT-loop
+block-Inv-loop t z cur c from depth at₀ at = (k : ℕ) × (length t - at ≤ k) × (blockAt depth cur z t c from ≡ blockWith (instrAt depth cur z t c) k at)
+
+abbrev block-μ-loop : block-lts.MeasureT-loop
+block-μ-loop t z cur c from depth at₀ at = length t - at
+
+-- src/code.rt:125:5
+block-loop-holds :
+    (t : ℕ) →
+    block-lts.Need-loop-holds
+    (instr-below t, instr.Post)
+    (block-at t)
+    block.Post
+    block-Inv-loop
+    block-μ-loop
+unfolding blockAt
+block-loop-holds t c =
+    let a = c .before .args in (length (a .t .now), omega arith, refl)
+
+-- src/code.rt:126:13
+block-instr-requires :
+    (t : ℕ) →
+    block-lts.Need-instr-requires
+    (instr-below t, instr.Post)
+    (block-at t)
+    block.Post
+    block-Inv-loop
+    block-μ-loop
+block-instr-requires t c κs = search needs
+
+-- src/code.rt:128:26
+block-enum-known-one :
+    (t : ℕ) →
+    block-lts.Need-enum-known-one
+    (instr-below t, instr.Post)
+    (block-at t)
+    block.Post
+    block-Inv-loop
+    block-μ-loop
+block-enum-known-one t c = search needs
+
+-- src/code.rt:125:5
+block-loop-less :
+    (t : ℕ) →
+    block-lts.Need-loop-less
+    (instr-below t, instr.Post)
+    (block-at t)
+    block.Post
+    block-Inv-loop
+    block-μ-loop
+block-loop-less t c =
+    let a = c .before .before .before .before .before .before .args in
+    let at = c .before .before .before .before .loop .at in
+    let inv = c .before .before .before .before .loop .inv in
+    let e = sym (c .before .before .before .instr .ensures) ∙ c .before .one .given .1 in
+    let ok = subst (Ok (a .z) (a .t .now) (a .c) at) e (instr-ok (a .depth) (a .cur) (a .z) (a .t .now) (a .c) at) in
+    omega (arith, ok .0, ok .1)
+
+-- src/code.rt:125:5
+block-loop-again :
+    (t : ℕ) →
+    block-lts.Need-loop-again
+    (instr-below t, instr.Post)
+    (block-at t)
+    block.Post
+    block-Inv-loop
+    block-μ-loop
+block-loop-again t c =
+    let a = c .before .before .before .before .before .before .args in
+    let at = c .before .before .before .before .loop .at in
+    let inv = c .before .before .before .before .loop .inv in
+    let e = sym (c .before .before .before .instr .ensures) ∙ c .before .one .given .1 in
+    let n = turn-next (a .depth) (a .cur) (a .z) (a .t .now) (a .c) (inv .0) at _ e (inv .1) in
+    (n .0, n .1, inv .2 ∙ n .2)
+
+-- src/code.rt:131:26
+block-enum-known-one-2 :
+    (t : ℕ) →
+    block-lts.Need-enum-known-one-2
+    (instr-below t, instr.Post)
+    (block-at t)
+    block.Post
+    block-Inv-loop
+    block-μ-loop
+block-enum-known-one-2 t c = search needs
+
+-- src/code.rt:132:17
+block-returns :
+    (t : ℕ) →
+    block-lts.Need-returns
+    (instr-below t, instr.Post)
+    (block-at t)
+    block.Post
+    block-Inv-loop
+    block-μ-loop
+block-returns t c =
+    let a = c .before .before .before .before .before .before .args in
+    let at = c .before .before .before .before .loop .at in
+    let inv = c .before .before .before .before .loop .inv in
+    let e = sym (c .before .before .before .instr .ensures) ∙ c .before .one2 .given .1 in
+    sym (inv .2 ∙ turn-shut (a .depth) (a .cur) (a .z) (a .t .now) (a .c) (inv .0) at _ e (inv .1))
+
+-- src/code.rt:134:27
+block-enum-known-one-3 :
+    (t : ℕ) →
+    block-lts.Need-enum-known-one-3
+    (instr-below t, instr.Post)
+    (block-at t)
+    block.Post
+    block-Inv-loop
+    block-μ-loop
+block-enum-known-one-3 t c = search needs
+
+-- src/code.rt:135:17
+block-returns-2 :
+    (t : ℕ) →
+    block-lts.Need-returns-2
+    (instr-below t, instr.Post)
+    (block-at t)
+    block.Post
+    block-Inv-loop
+    block-μ-loop
+block-returns-2 t c =
+    let a = c .before .before .before .before .before .before .args in
+    let at = c .before .before .before .before .loop .at in
+    let inv = c .before .before .before .before .loop .inv in
+    let e = sym (c .before .before .before .instr .ensures) ∙ c .before .one3 .given .1 in
+    sym (inv .2 ∙ turn-fault (a .depth) (a .cur) (a .z) (a .t .now) (a .c) (inv .0) at _ _ e (inv .1))
+
+-- src/code.rt:62:9
+branch-at-returns : (t : ℕ) → branch-at-lts.Need-returns (
+  block-below t,
+  block.Post,
+  place-at-reads.Asked,
+  place-at-reads.Learnt,
+  met-at-reads.Asked,
+  met-at-reads.Learnt,
+) (branch-at-at t) branch-at.Post
+unfolding ifWith
+branch-at-returns t c =
+    simp (c .if1 .taken)
+
+-- src/code.rt:64:44
+branch-at-sub-block : (t : ℕ) → branch-at-lts.Need-sub-block (
+  block-below t,
+  block.Post,
+  place-at-reads.Asked,
+  place-at-reads.Learnt,
+  met-at-reads.Asked,
+  met-at-reads.Learnt,
+) (branch-at-at t) branch-at.Post
+branch-at-sub-block t c = search needs
+
+-- src/code.rt:64:9
+branch-at-block-requires : (t : ℕ) → branch-at-lts.Need-block-requires (
+  block-below t,
+  block.Post,
+  place-at-reads.Asked,
+  place-at-reads.Learnt,
+  met-at-reads.Asked,
+  met-at-reads.Learnt,
+) (branch-at-at t) branch-at.Post
+branch-at-block-requires t c κs = search needs
+
+-- src/code.rt:66:22
+branch-at-enum-known-first : (t : ℕ) → branch-at-lts.Need-enum-known-first (
+  block-below t,
+  block.Post,
+  place-at-reads.Asked,
+  place-at-reads.Learnt,
+  met-at-reads.Asked,
+  met-at-reads.Learnt,
+) (branch-at-at t) branch-at.Post
+branch-at-enum-known-first t c = search needs
+
+-- src/code.rt:67:23
+branch-at-enum-known-first-2 : (t : ℕ) → branch-at-lts.Need-enum-known-first-2 (
+  block-below t,
+  block.Post,
+  place-at-reads.Asked,
+  place-at-reads.Learnt,
+  met-at-reads.Asked,
+  met-at-reads.Learnt,
+) (branch-at-at t) branch-at.Post
+branch-at-enum-known-first-2 t c = search needs
+
+-- src/code.rt:68:22
+branch-at-enum-known-first-3 : (t : ℕ) → branch-at-lts.Need-enum-known-first-3 (
+  block-below t,
+  block.Post,
+  place-at-reads.Asked,
+  place-at-reads.Learnt,
+  met-at-reads.Asked,
+  met-at-reads.Learnt,
+) (branch-at-at t) branch-at.Post
+branch-at-enum-known-first-3 t c = search needs
+
+-- src/code.rt:70:17
+branch-at-returns-2 : (t : ℕ) → branch-at-lts.Need-returns-2 (
+  block-below t,
+  block.Post,
+  place-at-reads.Asked,
+  place-at-reads.Learnt,
+  met-at-reads.Asked,
+  met-at-reads.Learnt,
+) (branch-at-at t) branch-at.Post
+branch-at-returns-2 t c =
+    let a = c .before .before .before .before .before .before .before .args in
+    let h = c .before .before .before .before .before .if1 .left in
+    let b = sym (c .before .before .before .before .block .ensures) ∙ c .before .before .first3 .given .1 in
+    if-missed (a .depth) (a .cur) (a .z) (a .t .now) (a .at) (a .next) (a .to) h b (c .if2 .taken)
+
+-- src/code.rt:72:47
+branch-at-add-block : (t : ℕ) → branch-at-lts.Need-add-block (
+  block-below t,
+  block.Post,
+  place-at-reads.Asked,
+  place-at-reads.Learnt,
+  met-at-reads.Asked,
+  met-at-reads.Learnt,
+) (branch-at-at t) branch-at.Post
+branch-at-add-block t c =
+    let a = c .before .before .before .before .before .before .before .args in
+    let w = shut-else (a .depth - 1) (a .cur) (a .z) (a .t .now) (a .next) (sym (c .before .before .before .before .block .ensures) ∙ c .before .before .first3 .given .1) in
+    search needs
+
+-- src/code.rt:72:54
+branch-at-sub-block-2 : (t : ℕ) → branch-at-lts.Need-sub-block-2 (
+  block-below t,
+  block.Post,
+  place-at-reads.Asked,
+  place-at-reads.Learnt,
+  met-at-reads.Asked,
+  met-at-reads.Learnt,
+) (branch-at-at t) branch-at.Post
+branch-at-sub-block-2 t c = search needs
+
+-- src/code.rt:72:17
+branch-at-block-requires-2 : (t : ℕ) → branch-at-lts.Need-block-requires-2 (
+  block-below t,
+  block.Post,
+  place-at-reads.Asked,
+  place-at-reads.Learnt,
+  met-at-reads.Asked,
+  met-at-reads.Learnt,
+) (branch-at-at t) branch-at.Post
+branch-at-block-requires-2 t c κs = search needs
+
+-- src/code.rt:74:30
+branch-at-enum-known-second : (t : ℕ) → branch-at-lts.Need-enum-known-second (
+  block-below t,
+  block.Post,
+  place-at-reads.Asked,
+  place-at-reads.Learnt,
+  met-at-reads.Asked,
+  met-at-reads.Learnt,
+) (branch-at-at t) branch-at.Post
+branch-at-enum-known-second t c = search needs
+
+-- src/code.rt:75:31
+branch-at-enum-known-second-2 : (t : ℕ) → branch-at-lts.Need-enum-known-second-2 (
+  block-below t,
+  block.Post,
+  place-at-reads.Asked,
+  place-at-reads.Learnt,
+  met-at-reads.Asked,
+  met-at-reads.Learnt,
+) (branch-at-at t) branch-at.Post
+branch-at-enum-known-second-2 t c = search needs
+
+-- src/code.rt:76:30
+branch-at-enum-known-second-3 : (t : ℕ) → branch-at-lts.Need-enum-known-second-3 (
+  block-below t,
+  block.Post,
+  place-at-reads.Asked,
+  place-at-reads.Learnt,
+  met-at-reads.Asked,
+  met-at-reads.Learnt,
+) (branch-at-at t) branch-at.Post
+branch-at-enum-known-second-3 t c = search needs
+
+-- src/code.rt:76:66
+branch-at-add-place-at : (t : ℕ) → branch-at-lts.Need-add-place-at (
+  block-below t,
+  block.Post,
+  place-at-reads.Asked,
+  place-at-reads.Learnt,
+  met-at-reads.Asked,
+  met-at-reads.Learnt,
+) (branch-at-at t) branch-at.Post
+branch-at-add-place-at t c =
+    let a = c .before .before .before .before .before .before .before .before .before .before .before .args in
+    let w = shut-else (a .depth - 1) (a .cur) (a .z) (a .t .now) (a .next) (sym (c .before .before .before .before .before .before .before .before .block .ensures) ∙ c .before .before .before .before .before .before .first3 .given .1) in
+    search needs
+
+-- src/code.rt:76:46
+branch-at-place-at-requires : (t : ℕ) → branch-at-lts.Need-place-at-requires (
+  block-below t,
+  block.Post,
+  place-at-reads.Asked,
+  place-at-reads.Learnt,
+  met-at-reads.Asked,
+  met-at-reads.Learnt,
+) (branch-at-at t) branch-at.Post
+branch-at-place-at-requires t c κs = search needs
+
+-- src/code.rt:76:77
+branch-at-add-met-at : (t : ℕ) → branch-at-lts.Need-add-met-at (
+  block-below t,
+  block.Post,
+  place-at-reads.Asked,
+  place-at-reads.Learnt,
+  met-at-reads.Asked,
+  met-at-reads.Learnt,
+) (branch-at-at t) branch-at.Post
+branch-at-add-met-at t c =
+    let a = c .before .before .before .before .before .before .before .before .before .before .before .before .args in
+    let w = shut-one (a .depth - 1) (a .cur) (a .z) (a .t .now) 34 _ (sym (c .before .before .before .before .block2 .ensures) ∙ c .before .before .second3 .given .1) in
+    search needs
+
+-- src/code.rt:76:36
+branch-at-met-at-requires : (t : ℕ) → branch-at-lts.Need-met-at-requires (
+  block-below t,
+  block.Post,
+  place-at-reads.Asked,
+  place-at-reads.Learnt,
+  met-at-reads.Asked,
+  met-at-reads.Learnt,
+) (branch-at-at t) branch-at.Post
+branch-at-met-at-requires t c κs = search needs
+
+-- src/code.rt:58:1
+branch-at-returns-3 : (t : ℕ) → branch-at-lts.Need-returns-3 (
+  block-below t,
+  block.Post,
+  place-at-reads.Asked,
+  place-at-reads.Learnt,
+  met-at-reads.Asked,
+  met-at-reads.Learnt,
+) (branch-at-at t) branch-at.Post
+branch-at-returns-3 t c =
+    let a = c .before .before .before .before .before .before .args in
+    let h = c .before .before .before .before .if1 .left in
+    let b = sym (c .before .before .before .block .ensures) ∙ c .before .first .given .1 in
+    if-is (a .depth) (a .cur) (a .z) (a .t .now) (a .at) (a .next) (a .to) h b
+
+-- src/code.rt:58:1
+branch-at-returns-4 : (t : ℕ) → branch-at-lts.Need-returns-4 (
+  block-below t,
+  block.Post,
+  place-at-reads.Asked,
+  place-at-reads.Learnt,
+  met-at-reads.Asked,
+  met-at-reads.Learnt,
+) (branch-at-at t) branch-at.Post
+branch-at-returns-4 t c =
+    let a = c .before .before .before .before .before .before .args in
+    let h = c .before .before .before .before .if1 .left in
+    let b = sym (c .before .before .before .block .ensures) ∙ c .before .first2 .given .1 in
+    if-is (a .depth) (a .cur) (a .z) (a .t .now) (a .at) (a .next) (a .to) h b
+
+-- src/code.rt:58:1
+branch-at-returns-5 : (t : ℕ) → branch-at-lts.Need-returns-5 (
+  block-below t,
+  block.Post,
+  place-at-reads.Asked,
+  place-at-reads.Learnt,
+  met-at-reads.Asked,
+  met-at-reads.Learnt,
+) (branch-at-at t) branch-at.Post
+branch-at-returns-5 t c =
+    let a = c .before .before .before .before .before .before .before .before .before .before .before .args in
+    let h = c .before .before .before .before .before .before .before .before .before .if1 .left in
+    let b = sym (c .before .before .before .before .before .before .before .before .block .ensures) ∙ c .before .before .before .before .before .before .first3 .given .1 in
+    let d = sym (c .before .before .before .block2 .ensures) ∙ c .before .second .given .1 in
+    if-met (a .depth) (a .cur) (a .z) (a .t .now) (a .at) (a .next) (a .to) h b (c .before .before .before .before .if2 .left) d
+
+-- src/code.rt:58:1
+branch-at-returns-6 : (t : ℕ) → branch-at-lts.Need-returns-6 (
+  block-below t,
+  block.Post,
+  place-at-reads.Asked,
+  place-at-reads.Learnt,
+  met-at-reads.Asked,
+  met-at-reads.Learnt,
+) (branch-at-at t) branch-at.Post
+branch-at-returns-6 t c =
+    let a = c .before .before .before .before .before .before .before .before .before .before .before .args in
+    let h = c .before .before .before .before .before .before .before .before .before .if1 .left in
+    let b = sym (c .before .before .before .before .before .before .before .before .block .ensures) ∙ c .before .before .before .before .before .before .first3 .given .1 in
+    let d = sym (c .before .before .before .block2 .ensures) ∙ c .before .second2 .given .1 in
+    if-met (a .depth) (a .cur) (a .z) (a .t .now) (a .at) (a .next) (a .to) h b (c .before .before .before .before .if2 .left) d
+
+-- src/code.rt:58:1
+branch-at-returns-7 : (t : ℕ) → branch-at-lts.Need-returns-7 (
+  block-below t,
+  block.Post,
+  place-at-reads.Asked,
+  place-at-reads.Learnt,
+  met-at-reads.Asked,
+  met-at-reads.Learnt,
+) (branch-at-at t) branch-at.Post
+branch-at-returns-7 t c =
+    let a = c .before .before .before .before .before .before .before .before .before .before .before .before .before .args in
+    let h = c .before .before .before .before .before .before .before .before .before .before .before .if1 .left in
+    let b = sym (c .before .before .before .before .before .before .before .before .before .before .block .ensures) ∙ c .before .before .before .before .before .before .before .before .first3 .given .1 in
+    let d = sym (c .before .before .before .before .before .block2 .ensures) ∙ c .before .before .before .second3 .given .1 in
+    rw (c .met-at .ensures, c .before .place-at .ensures .0) (if-met (a .depth) (a .cur) (a .z) (a .t .now) (a .at) (a .next) (a .to) h b (c .before .before .before .before .before .before .if2 .left) d)
+
+-- src/code.rt:105:9
+instr-record-requires : (t : ℕ) → instr-lts.Need-record-requires (
+  record-reads.Asked,
+  record-reads.Learnt,
+  call-at-reads.Asked,
+  call-at-reads.Learnt,
+  branch-at-below t,
+  branch-at.Post,
+  loop-at-below t,
+  loop-at.Post,
+) (instr-at t) instr.Post
+instr-record-requires t c κs = search needs
+
+-- src/code.rt:107:22
+instr-enum-known-d : (t : ℕ) → instr-lts.Need-enum-known-d (
+  record-reads.Asked,
+  record-reads.Learnt,
+  call-at-reads.Asked,
+  call-at-reads.Learnt,
+  branch-at-below t,
+  branch-at.Post,
+  loop-at-below t,
+  loop-at.Post,
+) (instr-at t) instr.Post
+instr-enum-known-d t c = search needs
+
+-- src/code.rt:108:22
+instr-enum-known-d-2 : (t : ℕ) → instr-lts.Need-enum-known-d-2 (
+  record-reads.Asked,
+  record-reads.Learnt,
+  call-at-reads.Asked,
+  call-at-reads.Learnt,
+  branch-at-below t,
+  branch-at.Post,
+  loop-at-below t,
+  loop-at.Post,
+) (instr-at t) instr.Post
+instr-enum-known-d-2 t c = search needs
+
+-- src/code.rt:109:24
+instr-enum-known-r : (t : ℕ) → instr-lts.Need-enum-known-r (
+  record-reads.Asked,
+  record-reads.Learnt,
+  call-at-reads.Asked,
+  call-at-reads.Learnt,
+  branch-at-below t,
+  branch-at.Post,
+  loop-at-below t,
+  loop-at.Post,
+) (instr-at t) instr.Post
+instr-enum-known-r t c = search needs
+
+-- src/code.rt:110:28
+instr-enum-known-r-2 : (t : ℕ) → instr-lts.Need-enum-known-r-2 (
+  record-reads.Asked,
+  record-reads.Learnt,
+  call-at-reads.Asked,
+  call-at-reads.Learnt,
+  branch-at-below t,
+  branch-at.Post,
+  loop-at-below t,
+  loop-at.Post,
+) (instr-at t) instr.Post
+instr-enum-known-r-2 t c = search needs
+
+-- src/code.rt:110:48
+instr-call-at-requires : (t : ℕ) → instr-lts.Need-call-at-requires (
+  record-reads.Asked,
+  record-reads.Learnt,
+  call-at-reads.Asked,
+  call-at-reads.Learnt,
+  branch-at-below t,
+  branch-at.Post,
+  loop-at-below t,
+  loop-at.Post,
+) (instr-at t) instr.Post
+instr-call-at-requires t c κs = search needs
+
+-- src/code.rt:111:26
+instr-enum-known-r-3 : (t : ℕ) → instr-lts.Need-enum-known-r-3 (
+  record-reads.Asked,
+  record-reads.Learnt,
+  call-at-reads.Asked,
+  call-at-reads.Learnt,
+  branch-at-below t,
+  branch-at.Post,
+  loop-at-below t,
+  loop-at.Post,
+) (instr-at t) instr.Post
+instr-enum-known-r-3 t c = search needs
+
+-- src/code.rt:111:44
+instr-branch-at-requires : (t : ℕ) → instr-lts.Need-branch-at-requires (
+  record-reads.Asked,
+  record-reads.Learnt,
+  call-at-reads.Asked,
+  call-at-reads.Learnt,
+  branch-at-below t,
+  branch-at.Post,
+  loop-at-below t,
+  loop-at.Post,
+) (instr-at t) instr.Post
+instr-branch-at-requires t c κs = search needs
+
+-- src/code.rt:112:28
+instr-enum-known-r-4 : (t : ℕ) → instr-lts.Need-enum-known-r-4 (
+  record-reads.Asked,
+  record-reads.Learnt,
+  call-at-reads.Asked,
+  call-at-reads.Learnt,
+  branch-at-below t,
+  branch-at.Post,
+  loop-at-below t,
+  loop-at.Post,
+) (instr-at t) instr.Post
+instr-enum-known-r-4 t c = search needs
+
+-- src/code.rt:113:30
+instr-enum-told : (t : ℕ) → instr-lts.Need-enum-told (
+  record-reads.Asked,
+  record-reads.Learnt,
+  call-at-reads.Asked,
+  call-at-reads.Learnt,
+  branch-at-below t,
+  branch-at.Post,
+  loop-at-below t,
+  loop-at.Post,
+) (instr-at t) instr.Post
+instr-enum-told t c = search needs
+
+-- src/code.rt:114:29
+instr-enum-known-r-5 : (t : ℕ) → instr-lts.Need-enum-known-r-5 (
+  record-reads.Asked,
+  record-reads.Learnt,
+  call-at-reads.Asked,
+  call-at-reads.Learnt,
+  branch-at-below t,
+  branch-at.Post,
+  loop-at-below t,
+  loop-at.Post,
+) (instr-at t) instr.Post
+instr-enum-known-r-5 t c = search needs
+
+-- src/code.rt:114:52
+instr-loop-at-requires : (t : ℕ) → instr-lts.Need-loop-at-requires (
+  record-reads.Asked,
+  record-reads.Learnt,
+  call-at-reads.Asked,
+  call-at-reads.Learnt,
+  branch-at-below t,
+  branch-at.Post,
+  loop-at-below t,
+  loop-at.Post,
+) (instr-at t) instr.Post
+instr-loop-at-requires t c κs = search needs
+
+-- src/code.rt:115:32
+instr-enum-known-r-6 : (t : ℕ) → instr-lts.Need-enum-known-r-6 (
+  record-reads.Asked,
+  record-reads.Learnt,
+  call-at-reads.Asked,
+  call-at-reads.Learnt,
+  branch-at-below t,
+  branch-at.Post,
+  loop-at-below t,
+  loop-at.Post,
+) (instr-at t) instr.Post
+instr-enum-known-r-6 t c = search needs
+
+-- src/code.rt:116:31
+instr-enum-told-2 : (t : ℕ) → instr-lts.Need-enum-told-2 (
+  record-reads.Asked,
+  record-reads.Learnt,
+  call-at-reads.Asked,
+  call-at-reads.Learnt,
+  branch-at-below t,
+  branch-at.Post,
+  loop-at-below t,
+  loop-at.Post,
+) (instr-at t) instr.Post
+instr-enum-told-2 t c = search needs
+
+-- src/code.rt:102:1
+instr-returns : (t : ℕ) → instr-lts.Need-returns (
+  record-reads.Asked,
+  record-reads.Learnt,
+  call-at-reads.Asked,
+  call-at-reads.Learnt,
+  branch-at-below t,
+  branch-at.Post,
+  loop-at-below t,
+  loop-at.Post,
+) (instr-at t) instr.Post
+instr-returns t c =
+    let e = sym (c .before .before .before .«record» .ensures) ∙ c .before .d .given .1 in
+    simp (instr-is, e)
+
+-- src/code.rt:102:1
+instr-returns-2 : (t : ℕ) → instr-lts.Need-returns-2 (
+  record-reads.Asked,
+  record-reads.Learnt,
+  call-at-reads.Asked,
+  call-at-reads.Learnt,
+  branch-at-below t,
+  branch-at.Post,
+  loop-at-below t,
+  loop-at.Post,
+) (instr-at t) instr.Post
+instr-returns-2 t c =
+    let e = sym (c .before .before .before .before .before .before .«record» .ensures) ∙ c .before .before .before .before .d2 .given .1 in
+    let g = c .before .r .given .1 in
+    simp (instr-is, e, g)
+
+-- src/code.rt:102:1
+instr-returns-3 : (t : ℕ) → instr-lts.Need-returns-3 (
+  record-reads.Asked,
+  record-reads.Learnt,
+  call-at-reads.Asked,
+  call-at-reads.Learnt,
+  branch-at-below t,
+  branch-at.Post,
+  loop-at-below t,
+  loop-at.Post,
+) (instr-at t) instr.Post
+instr-returns-3 t c =
+    let e = sym (c .before .before .before .before .before .before .before .«record» .ensures) ∙ c .before .before .before .before .before .d2 .given .1 in
+    let g = c .before .before .r2 .given .1 in
+    simp (instr-is, e, g) (c .call-at .ensures)
+
+-- src/code.rt:102:1
+instr-returns-4 : (t : ℕ) → instr-lts.Need-returns-4 (
+  record-reads.Asked,
+  record-reads.Learnt,
+  call-at-reads.Asked,
+  call-at-reads.Learnt,
+  branch-at-below t,
+  branch-at.Post,
+  loop-at-below t,
+  loop-at.Post,
+) (instr-at t) instr.Post
+instr-returns-4 t c =
+    let e = sym (c .before .before .before .before .before .before .before .«record» .ensures) ∙ c .before .before .before .before .before .d2 .given .1 in
+    let g = c .before .before .r3 .given .1 in
+    simp (instr-is, e, g) (c .branch-at .ensures)
+
+-- src/code.rt:102:1
+instr-returns-5 : (t : ℕ) → instr-lts.Need-returns-5 (
+  record-reads.Asked,
+  record-reads.Learnt,
+  call-at-reads.Asked,
+  call-at-reads.Learnt,
+  branch-at-below t,
+  branch-at.Post,
+  loop-at-below t,
+  loop-at.Post,
+) (instr-at t) instr.Post
+instr-returns-5 t c =
+    let e = sym (c .before .before .before .before .before .before .«record» .ensures) ∙ c .before .before .before .before .d2 .given .1 in
+    let g = c .before .r4 .given .1 in
+    simp (instr-is, e, g)
+
+-- src/code.rt:102:1
+instr-returns-6 : (t : ℕ) → instr-lts.Need-returns-6 (
+  record-reads.Asked,
+  record-reads.Learnt,
+  call-at-reads.Asked,
+  call-at-reads.Learnt,
+  branch-at-below t,
+  branch-at.Post,
+  loop-at-below t,
+  loop-at.Post,
+) (instr-at t) instr.Post
+instr-returns-6 t c =
+    let e = sym (c .before .before .before .before .before .«record» .ensures) ∙ c .before .before .before .d2 .given .1 in
+    let g = c .enum-told .given .1 in
+    simp (instr-is, e, g)
+
+-- src/code.rt:102:1
+instr-returns-7 : (t : ℕ) → instr-lts.Need-returns-7 (
+  record-reads.Asked,
+  record-reads.Learnt,
+  call-at-reads.Asked,
+  call-at-reads.Learnt,
+  branch-at-below t,
+  branch-at.Post,
+  loop-at-below t,
+  loop-at.Post,
+) (instr-at t) instr.Post
+instr-returns-7 t c =
+    let e = sym (c .before .before .before .before .before .before .before .«record» .ensures) ∙ c .before .before .before .before .before .d2 .given .1 in
+    let g = c .before .before .r5 .given .1 in
+    simp (instr-is, e, g) (c .loop-at .ensures)
+
+-- src/code.rt:102:1
+instr-returns-8 : (t : ℕ) → instr-lts.Need-returns-8 (
+  record-reads.Asked,
+  record-reads.Learnt,
+  call-at-reads.Asked,
+  call-at-reads.Learnt,
+  branch-at-below t,
+  branch-at.Post,
+  loop-at-below t,
+  loop-at.Post,
+) (instr-at t) instr.Post
+instr-returns-8 t c =
+    let e = sym (c .before .before .before .before .before .before .«record» .ensures) ∙ c .before .before .before .before .d2 .given .1 in
+    let g = c .before .r6 .given .1 in
+    simp (instr-is, e, g)
+
+-- src/code.rt:102:1
+instr-returns-9 : (t : ℕ) → instr-lts.Need-returns-9 (
+  record-reads.Asked,
+  record-reads.Learnt,
+  call-at-reads.Asked,
+  call-at-reads.Learnt,
+  branch-at-below t,
+  branch-at.Post,
+  loop-at-below t,
+  loop-at.Post,
+) (instr-at t) instr.Post
+instr-returns-9 t c =
+    let e = sym (c .before .before .before .before .before .«record» .ensures) ∙ c .before .before .before .d2 .given .1 in
+    let g = c .enum-told2 .given .1 in
+    simp (instr-is, e, g)
+
+-- src/code.rt:87:9
+loop-at-returns : (t : ℕ) → loop-at-lts.Need-returns (
+  block-below t,
+  block.Post,
+  place-at-reads.Asked,
+  place-at-reads.Learnt,
+  met-at-reads.Asked,
+  met-at-reads.Learnt,
+) (loop-at-at t) loop-at.Post
+unfolding whileWith
+loop-at-returns t c =
+    simp (c .if1 .taken)
+
+-- src/code.rt:89:43
+loop-at-sub-block : (t : ℕ) → loop-at-lts.Need-sub-block (
+  block-below t,
+  block.Post,
+  place-at-reads.Asked,
+  place-at-reads.Learnt,
+  met-at-reads.Asked,
+  met-at-reads.Learnt,
+) (loop-at-at t) loop-at.Post
+loop-at-sub-block t c = search needs
+
+-- src/code.rt:89:9
+loop-at-block-requires : (t : ℕ) → loop-at-lts.Need-block-requires (
+  block-below t,
+  block.Post,
+  place-at-reads.Asked,
+  place-at-reads.Learnt,
+  met-at-reads.Asked,
+  met-at-reads.Learnt,
+) (loop-at-at t) loop-at.Post
+loop-at-block-requires t c κs = search needs
+
+-- src/code.rt:91:22
+loop-at-enum-known-body : (t : ℕ) → loop-at-lts.Need-enum-known-body (
+  block-below t,
+  block.Post,
+  place-at-reads.Asked,
+  place-at-reads.Learnt,
+  met-at-reads.Asked,
+  met-at-reads.Learnt,
+) (loop-at-at t) loop-at.Post
+loop-at-enum-known-body t c = search needs
+
+-- src/code.rt:92:23
+loop-at-enum-known-body-2 : (t : ℕ) → loop-at-lts.Need-enum-known-body-2 (
+  block-below t,
+  block.Post,
+  place-at-reads.Asked,
+  place-at-reads.Learnt,
+  met-at-reads.Asked,
+  met-at-reads.Learnt,
+) (loop-at-at t) loop-at.Post
+loop-at-enum-known-body-2 t c = search needs
+
+-- src/code.rt:93:22
+loop-at-enum-known-body-3 : (t : ℕ) → loop-at-lts.Need-enum-known-body-3 (
+  block-below t,
+  block.Post,
+  place-at-reads.Asked,
+  place-at-reads.Learnt,
+  met-at-reads.Asked,
+  met-at-reads.Learnt,
+) (loop-at-at t) loop-at.Post
+loop-at-enum-known-body-3 t c = search needs
+
+-- src/code.rt:95:17
+loop-at-returns-2 : (t : ℕ) → loop-at-lts.Need-returns-2 (
+  block-below t,
+  block.Post,
+  place-at-reads.Asked,
+  place-at-reads.Learnt,
+  met-at-reads.Asked,
+  met-at-reads.Learnt,
+) (loop-at-at t) loop-at.Post
+loop-at-returns-2 t c =
+    let a = c .before .before .before .before .before .before .before .args in
+    let h = c .before .before .before .before .before .if1 .left in
+    let b = sym (c .before .before .before .before .block .ensures) ∙ c .before .before .body3 .given .1 in
+    while-missed (a .depth) (a .cur) (a .z) (a .t .now) (a .at) (a .next) (a .to) h b (c .if2 .taken)
+
+-- src/code.rt:97:40
+loop-at-add-place-at : (t : ℕ) → loop-at-lts.Need-add-place-at (
+  block-below t,
+  block.Post,
+  place-at-reads.Asked,
+  place-at-reads.Learnt,
+  met-at-reads.Asked,
+  met-at-reads.Learnt,
+) (loop-at-at t) loop-at.Post
+loop-at-add-place-at t c =
+    let a = c .before .before .before .before .before .before .before .args in
+    let w = shut-endwhile (a .depth - 1) (a .cur) (a .z) (a .t .now) (a .next) (sym (c .before .before .before .before .block .ensures) ∙ c .before .before .body3 .given .1) in
+    search needs
+
+-- src/code.rt:97:20
+loop-at-place-at-requires : (t : ℕ) → loop-at-lts.Need-place-at-requires (
+  block-below t,
+  block.Post,
+  place-at-reads.Asked,
+  place-at-reads.Learnt,
+  met-at-reads.Asked,
+  met-at-reads.Learnt,
+) (loop-at-at t) loop-at.Post
+loop-at-place-at-requires t c κs = search needs
+
+-- src/code.rt:97:55
+loop-at-add-met-at : (t : ℕ) → loop-at-lts.Need-add-met-at (
+  block-below t,
+  block.Post,
+  place-at-reads.Asked,
+  place-at-reads.Learnt,
+  met-at-reads.Asked,
+  met-at-reads.Learnt,
+) (loop-at-at t) loop-at.Post
+loop-at-add-met-at t c =
+    let a = c .before .before .before .before .before .before .before .before .args in
+    let w = shut-endwhile (a .depth - 1) (a .cur) (a .z) (a .t .now) (a .next) (sym (c .before .before .before .before .before .block .ensures) ∙ c .before .before .before .body3 .given .1) in
+    search needs
+
+-- src/code.rt:97:13
+loop-at-met-at-requires : (t : ℕ) → loop-at-lts.Need-met-at-requires (
+  block-below t,
+  block.Post,
+  place-at-reads.Asked,
+  place-at-reads.Learnt,
+  met-at-reads.Asked,
+  met-at-reads.Learnt,
+) (loop-at-at t) loop-at.Post
+loop-at-met-at-requires t c κs = search needs
+
+-- src/code.rt:83:1
+loop-at-returns-3 : (t : ℕ) → loop-at-lts.Need-returns-3 (
+  block-below t,
+  block.Post,
+  place-at-reads.Asked,
+  place-at-reads.Learnt,
+  met-at-reads.Asked,
+  met-at-reads.Learnt,
+) (loop-at-at t) loop-at.Post
+loop-at-returns-3 t c =
+    let a = c .before .before .before .before .before .before .args in
+    let h = c .before .before .before .before .if1 .left in
+    let b = sym (c .before .before .before .block .ensures) ∙ c .before .body .given .1 in
+    while-is (a .depth) (a .cur) (a .z) (a .t .now) (a .at) (a .next) (a .to) h b
+
+-- src/code.rt:83:1
+loop-at-returns-4 : (t : ℕ) → loop-at-lts.Need-returns-4 (
+  block-below t,
+  block.Post,
+  place-at-reads.Asked,
+  place-at-reads.Learnt,
+  met-at-reads.Asked,
+  met-at-reads.Learnt,
+) (loop-at-at t) loop-at.Post
+loop-at-returns-4 t c =
+    let a = c .before .before .before .before .before .before .args in
+    let h = c .before .before .before .before .if1 .left in
+    let b = sym (c .before .before .before .block .ensures) ∙ c .before .body2 .given .1 in
+    while-is (a .depth) (a .cur) (a .z) (a .t .now) (a .at) (a .next) (a .to) h b
+
+-- src/code.rt:83:1
+loop-at-returns-5 : (t : ℕ) → loop-at-lts.Need-returns-5 (
+  block-below t,
+  block.Post,
+  place-at-reads.Asked,
+  place-at-reads.Learnt,
+  met-at-reads.Asked,
+  met-at-reads.Learnt,
+) (loop-at-at t) loop-at.Post
+loop-at-returns-5 t c =
+    let a = c .before .before .before .before .before .before .before .before .before .args in
+    let h = c .before .before .before .before .before .before .before .if1 .left in
+    let b = sym (c .before .before .before .before .before .before .block .ensures) ∙ c .before .before .before .before .body3 .given .1 in
+    rw (c .met-at .ensures, c .before .place-at .ensures .0) (while-met (a .depth) (a .cur) (a .z) (a .t .now) (a .at) (a .next) (a .to) h b (c .before .before .if2 .left))
+
+pub +block+branch-at+instr+loop-at-spec : {M : Type 1} → statement M
++block+branch-at+instr+loop-at-spec =
+    close
+    μ-block
+    μ-branch-at
+    μ-instr
+    μ-loop-at
+    (λ t. block-lts.spec
+    (instr-below t, instr.Post)
+    (block-at t)
+    block.Post
+    block-Inv-loop
+    block-μ-loop
+    (block-loop-holds t)
+    (block-instr-requires t)
+    (block-enum-known-one t)
+    (block-loop-less t)
+    (block-loop-again t)
+    (block-enum-known-one-2 t)
+    (block-returns t)
+    (block-enum-known-one-3 t)
+    (block-returns-2 t))
+    (λ t. branch-at-lts.spec (
+      block-below t,
+      block.Post,
+      place-at-reads.Asked,
+      place-at-reads.Learnt,
+      met-at-reads.Asked,
+      met-at-reads.Learnt,
+    )
+    (branch-at-at t)
+    branch-at.Post
+    (branch-at-returns t)
+    (branch-at-sub-block t)
+    (branch-at-block-requires t)
+    (branch-at-enum-known-first t)
+    (branch-at-enum-known-first-2 t)
+    (branch-at-enum-known-first-3 t)
+    (branch-at-returns-2 t)
+    (branch-at-add-block t)
+    (branch-at-sub-block-2 t)
+    (branch-at-block-requires-2 t)
+    (branch-at-enum-known-second t)
+    (branch-at-enum-known-second-2 t)
+    (branch-at-enum-known-second-3 t)
+    (branch-at-add-place-at t)
+    (branch-at-place-at-requires t)
+    (branch-at-add-met-at t)
+    (branch-at-met-at-requires t)
+    (branch-at-returns-3 t)
+    (branch-at-returns-4 t)
+    (branch-at-returns-5 t)
+    (branch-at-returns-6 t)
+    (branch-at-returns-7 t))
+    (λ t. instr-lts.spec (
+      record-reads.Asked,
+      record-reads.Learnt,
+      call-at-reads.Asked,
+      call-at-reads.Learnt,
+      branch-at-below t,
+      branch-at.Post,
+      loop-at-below t,
+      loop-at.Post,
+    )
+    (instr-at t)
+    instr.Post
+    (instr-record-requires t)
+    (instr-enum-known-d t)
+    (instr-enum-known-d-2 t)
+    (instr-enum-known-r t)
+    (instr-enum-known-r-2 t)
+    (instr-call-at-requires t)
+    (instr-enum-known-r-3 t)
+    (instr-branch-at-requires t)
+    (instr-enum-known-r-4 t)
+    (instr-enum-told t)
+    (instr-enum-known-r-5 t)
+    (instr-loop-at-requires t)
+    (instr-enum-known-r-6 t)
+    (instr-enum-told-2 t)
+    (instr-returns t)
+    (instr-returns-2 t)
+    (instr-returns-3 t)
+    (instr-returns-4 t)
+    (instr-returns-5 t)
+    (instr-returns-6 t)
+    (instr-returns-7 t)
+    (instr-returns-8 t)
+    (instr-returns-9 t))
+    λ t. loop-at-lts.spec (
+      block-below t,
+      block.Post,
+      place-at-reads.Asked,
+      place-at-reads.Learnt,
+      met-at-reads.Asked,
+      met-at-reads.Learnt,
+    )
+    (loop-at-at t)
+    loop-at.Post
+    (loop-at-returns t)
+    (loop-at-sub-block t)
+    (loop-at-block-requires t)
+    (loop-at-enum-known-body t)
+    (loop-at-enum-known-body-2 t)
+    (loop-at-enum-known-body-3 t)
+    (loop-at-returns-2 t)
+    (loop-at-add-place-at t)
+    (loop-at-place-at-requires t)
+    (loop-at-add-met-at t)
+    (loop-at-met-at-requires t)
+    (loop-at-returns-3 t)
+    (loop-at-returns-4 t)
+    (loop-at-returns-5 t)

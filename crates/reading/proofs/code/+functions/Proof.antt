@@ -1,0 +1,169 @@
+use mathlib.Core.Path.{_≡_, sym, _∙_}
+use borrow.Author.Tests.{eq-eqb, ne-eqb}
+use borrow.Author.Needs.{needs}
+use Rattle.reading.specs.Reading.{functionsAt}
+use Rattle.reading.proofs.Laws.{functions-is}
+use Prim.Native.Nat.{ℕ, _<_}
+use borrow.Fn.Kinds.{In}
+use borrow.Fn.PlainCycle.{Measures, is, falls, and}
+use Rattle.reading.proofs.code.functions.Reads as functions
+use Rattle.reading.proofs.code.functions.Kinds as functions-kinds
+use Rattle.reading.proofs.code.+functions.Lts-functions as functions-lts
+use Rattle.reading.proofs.code.function.Reads as function-reads
+use Rattle.reading.proofs.code.less.Reads as less-reads
+use Rattle.reading.proofs.code.+functions.{statement}
+use Rattle.reading.proofs.code.+functions.Tie.{close}
+
+abbrev μ-functions : Measures 1 functions-kinds.ps ℕ
+μ-functions κs a = a .1 .1 .0
+
+abbrev functions-at : ℕ → In 1 functions-kinds.ps
+functions-at t = and 1 functions-kinds.ps (is 1 functions-kinds.ps μ-functions t) functions.Pre
+
+abbrev functions-below : ℕ → In 1 functions-kinds.ps
+functions-below t =
+    and 1 functions-kinds.ps (falls 1 functions-kinds.ps _<_ μ-functions t) functions.Pre
+
+-- src/code.rt:179:13
+functions-returns : (t : ℕ) → functions-lts.Need-returns (
+  less-reads.Asked,
+  less-reads.Learnt,
+  function-reads.Asked,
+  function-reads.Learnt,
+  functions-below t,
+  functions.Post,
+) (functions-at t) functions.Post
+unfolding functionsAt
+functions-returns t c =
+    let h = c .if2 .taken in
+    simp (c .before .if1 .taken, eq-eqb)
+
+-- src/code.rt:181:9
+functions-returns-2 : (t : ℕ) → functions-lts.Need-returns-2 (
+  less-reads.Asked,
+  less-reads.Learnt,
+  function-reads.Asked,
+  function-reads.Learnt,
+  functions-below t,
+  functions.Post,
+) (functions-at t) functions.Post
+unfolding functionsAt
+functions-returns-2 t c =
+    let h = c .if2 .left in
+    simp (c .before .if1 .taken, ne-eqb)
+
+-- src/code.rt:183:9
+functions-less-requires : (t : ℕ) → functions-lts.Need-less-requires (
+  less-reads.Asked,
+  less-reads.Learnt,
+  function-reads.Asked,
+  function-reads.Learnt,
+  functions-below t,
+  functions.Post,
+) (functions-at t) functions.Post
+functions-less-requires t c κs = search needs
+
+-- src/code.rt:184:9
+functions-function-requires : (t : ℕ) → functions-lts.Need-function-requires (
+  less-reads.Asked,
+  less-reads.Learnt,
+  function-reads.Asked,
+  function-reads.Learnt,
+  functions-below t,
+  functions.Post,
+) (functions-at t) functions.Post
+functions-function-requires t c κs = search needs
+
+-- src/code.rt:186:16
+functions-enum-known-one : (t : ℕ) → functions-lts.Need-enum-known-one (
+  less-reads.Asked,
+  less-reads.Learnt,
+  function-reads.Asked,
+  function-reads.Learnt,
+  functions-below t,
+  functions.Post,
+) (functions-at t) functions.Post
+functions-enum-known-one t c = search needs
+
+-- src/code.rt:186:38
+functions-sub-functions : (t : ℕ) → functions-lts.Need-sub-functions (
+  less-reads.Asked,
+  less-reads.Learnt,
+  function-reads.Asked,
+  function-reads.Learnt,
+  functions-below t,
+  functions.Post,
+) (functions-at t) functions.Post
+functions-sub-functions t c = search needs
+
+-- src/code.rt:186:22
+functions-functions-requires : (t : ℕ) → functions-lts.Need-functions-requires (
+  less-reads.Asked,
+  less-reads.Learnt,
+  function-reads.Asked,
+  function-reads.Learnt,
+  functions-below t,
+  functions.Post,
+) (functions-at t) functions.Post
+functions-functions-requires t c κs = search needs
+
+-- src/code.rt:187:19
+functions-enum-known-one-2 : (t : ℕ) → functions-lts.Need-enum-known-one-2 (
+  less-reads.Asked,
+  less-reads.Learnt,
+  function-reads.Asked,
+  function-reads.Learnt,
+  functions-below t,
+  functions.Post,
+) (functions-at t) functions.Post
+functions-enum-known-one-2 t c = search needs
+
+-- src/code.rt:174:1
+functions-returns-3 : (t : ℕ) → functions-lts.Need-returns-3 (
+  less-reads.Asked,
+  less-reads.Learnt,
+  function-reads.Asked,
+  function-reads.Learnt,
+  functions-below t,
+  functions.Post,
+) (functions-at t) functions.Post
+functions-returns-3 t c =
+    let h = c .before .before .before .before .before .before .if1 .left in
+    let e = simp (c .before .before .before .before .before .less .ensures) at (sym (c .before .before .before .before .function .ensures) ∙ c .before .before .one .given .1) in
+    simp (functions-is, e) (c .functions .ensures)
+
+-- src/code.rt:174:1
+functions-returns-4 : (t : ℕ) → functions-lts.Need-returns-4 (
+  less-reads.Asked,
+  less-reads.Learnt,
+  function-reads.Asked,
+  function-reads.Learnt,
+  functions-below t,
+  functions.Post,
+) (functions-at t) functions.Post
+functions-returns-4 t c =
+    let h = c .before .before .before .before .before .if1 .left in
+    let e = simp (c .before .before .before .before .less .ensures) at (sym (c .before .before .before .function .ensures) ∙ c .before .one2 .given .1) in
+    simp (functions-is, e)
+
+pub +functions-spec : {M : Type 1} → statement M
++functions-spec = close μ-functions λ t. functions-lts.spec (
+  less-reads.Asked,
+  less-reads.Learnt,
+  function-reads.Asked,
+  function-reads.Learnt,
+  functions-below t,
+  functions.Post,
+)
+    (functions-at t)
+    functions.Post
+    (functions-returns t)
+    (functions-returns-2 t)
+    (functions-less-requires t)
+    (functions-function-requires t)
+    (functions-enum-known-one t)
+    (functions-sub-functions t)
+    (functions-functions-requires t)
+    (functions-enum-known-one-2 t)
+    (functions-returns-3 t)
+    (functions-returns-4 t)

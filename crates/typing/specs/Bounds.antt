@@ -1,0 +1,137 @@
+-- The typing walk goes forward, and not far beyond the table even where it has not been read: a closing record that is
+-- missing is passed over by at most four bytes for each nesting.
+use Prim.Native.Nat.{ℕ, zero, suc, _+_, _*_, _<_, _≤_, max}
+use native.Mathlib.Omega.{arith}
+use mathlib.Core.Path.{_≡_, refl, sym, ap, subst, _∙_}
+use mathlib.Core.List.{List}
+use mathlib.Core.Bool.{Bool, true, false}
+use lib.ListN.{length}
+use Rattle.model.specs.Tests.{pick, pick-ind}
+use Rattle.model.specs.Levels.{Env as Environment, join, within}
+use Rattle.model.specs.Packing.{envOf}
+use Rattle.model.specs.Records.{lengthOf, length-pos}
+use Rattle.model.specs.Rules.{typing}
+use Rattle.model.specs.Decide.{typingTests, meetsOf, numberOf}
+use Rattle.model.specs.Walk.{Walked as Walking, Next as Onward, Shut as Closed, Fault as Halt, onNext, onShut, single, ifWith, whileWith, instrWith, blockWith, instrAt, inside, instr-at}
+use Rattle.model.specs.declared.Sizes.{Sizes}
+use Rattle.model.specs.declared.Packed.{Packed}
+use Rattle.model.specs.declared.Record.{Record}
+use Rattle.model.specs.declared.Record.the-variants.{Do, Call, If, Else, Endif, While, Endwhile, Return}
+use Rattle.format.specs.Format.{decodeAt}
+use Rattle.format.specs.Laws.{good}
+use Rattle.format.specs.Layout.{recordFrom, recordOf}
+use Rattle.format.specs.declared.Decoded.{Decoded}
+use Rattle.format.specs.declared.Decoded.the-variants.{Got, Bad}
+use Rattle.typing.specs.Walks.{table, size, recordWalk, blockWalk}
+
+module _ (z : Sizes) (t : List ℕ) where
+  -- of the record at `at`: the walk goes on in the table, or shuts where it stands
+  abbrev pub Ok : ℕ → ℕ → Walking Environment → Type 0
+  Ok d at (Onward n E) = (at < length t) × (at < n) × (n ≤ length t + 4 * d)
+  Ok d at (Closed p E) = p ≡ at
+  Ok d at (Halt n p) = Unit {0}
+
+  abbrev pub OkBlock : ℕ → ℕ → Walking Environment → Type 0
+  OkBlock d at (Onward n E) = ⊥
+  OkBlock d at (Closed p E) = (at ≤ p) × (p ≤ max at (length t + 4 * d))
+  OkBlock d at (Halt n p) = Unit {0}
+
+  -- a record that is no RETURN lies in the table
+  abbrev Inside : ℕ → Record → Type 0
+  Inside p (Do s) = p + lengthOf (Do s) ≤ length t
+  Inside p (Call f m) = p + 3 ≤ length t
+  Inside p (If r e) = p + 4 ≤ length t
+  Inside p (Else n) = Unit {0}
+  Inside p Endif = Unit {0}
+  Inside p (While r e L) = p + 11 ≤ length t
+  Inside p (Endwhile w) = Unit {0}
+  Inside p Return = Unit {0}
+
+  inside-by : (p : ℕ) (r : Record) → p + lengthOf r ≤ length t → Inside p r
+  inside-by p (Do s) h = h
+  inside-by p (Call f m) h = h
+  inside-by p (If r e) h = h
+  inside-by p (Else n) h = tt
+  inside-by p Endif h = tt
+  inside-by p (While r e L) h = h
+  inside-by p (Endwhile w) h = tt
+  inside-by p Return h = tt
+
+  record-inside : (p : ℕ) → Inside p (recordOf z t p)
+  unfolding recordOf
+  record-inside p = go (decodeAt z t p) refl
+    where
+      go : (d : Decoded) → decodeAt z t p ≡ d → Inside p (recordFrom d)
+      go (Got r n) e = let g = good z t p e in inside-by p r (omega (arith, g .next, g .whole))
+      go (Bad n q) e = tt
+
+  shut-ok : (d at c from : ℕ) (w : Walking Environment) (g : ℕ → Environment → Walking Environment) → OkBlock c from w
+      → ((p : ℕ) (E : Environment) → from ≤ p → p ≤ max from (length t + 4 * c) → Ok d at (g p E)) → Ok d at (onShut w g)
+  shut-ok d at c from (Onward p E) g h hg = tt
+  shut-ok d at c from (Closed p E) g h hg = hg p E (h .0) (h .1)
+  shut-ok d at c from (Halt n p) g h hg = tt
+
+  module _ (d : ℕ) (B : ℕ → Environment → Walking Environment) (hB : (p : ℕ) (E : Environment) → OkBlock d p (B p E)) where
+    single-ok : (at : ℕ) (i : Record) (E : Environment) → at + lengthOf i ≤ length t → Ok (suc d) at (single (table z t) (typing (table z t)) (typingTests (table z t)) i at E)
+    single-ok at i E l = pick-ind (Ok (suc d) at) (meetsOf (table z t) i E) (λ _. (omega (arith, length-pos i), omega (arith, length-pos i), omega arith)) (λ _. tt)
+
+    if-ok : (at r : ℕ) (E : Environment) → at + 4 ≤ length t → Ok (suc d) at (ifWith (table z t) (typing (table z t)) (typingTests (table z t)) B at r E)
+    if-ok at r E l = pick-ind (Ok (suc d) at) (typingTests (table z t) .public E r)
+        (λ _. shut-ok (suc d) at d (at + 4) (B (at + 4) (typing (table z t) .guarded E r true)) _ (hB (at + 4) (typing (table z t) .guarded E r true))
+        (λ e E₁ le up. shut-ok (suc d) at d (e + 3) (B (e + 3) (typing (table z t) .guarded E r false)) _ (hB (e + 3) (typing (table z t) .guarded E r false))
+        (λ n E₂ ln un. (omega arith, omega arith, omega arith))))
+        (λ _. tt)
+
+    while-ok : (at r : ℕ) (L E : Environment) → at + 11 ≤ length t → Ok (suc d) at (whileWith (table z t) (typing (table z t)) (typingTests (table z t)) B at r L E)
+    while-ok at r L E l = pick-ind (Ok (suc d) at) (typingTests (table z t) .within E L)
+        (λ _. pick-ind (Ok (suc d) at) (typingTests (table z t) .public L r)
+        (λ _. shut-ok (suc d) at d (at + 11) (B (at + 11) (typing (table z t) .guarded L r true)) _ (hB (at + 11) (typing (table z t) .guarded L r true))
+        (λ e E₁ le up. pick-ind (Ok (suc d) at) (typingTests (table z t) .within E₁ L) (λ _. (omega arith, omega arith, omega arith)) (λ _. tt)))
+        (λ _. tt))
+        (λ _. tt)
+
+    instr-ok : (at : ℕ) (i : Record) (E : Environment) → Inside at i → Ok (suc d) at (instrWith (table z t) (typing (table z t)) (typingTests (table z t)) B i at E)
+    instr-ok at (Do s) E l = single-ok at (Do s) E l
+    instr-ok at (Call f m) E l = single-ok at (Call f m) E l
+    instr-ok at (If r e) E l = if-ok at r E l
+    instr-ok at (Else n) E l = refl
+    instr-ok at Endif E l = refl
+    instr-ok at (While r e L) E l = while-ok at r (envOf L) E l
+    instr-ok at (Endwhile w) E l = refl
+    instr-ok at Return E l = refl
+
+  -- with no nesting left
+  flat-ok : (at : ℕ) (i : Record) (E : Environment) → Inside at i → Ok 0 at (instrWith (table z t) (typing (table z t)) (typingTests (table z t)) (λ q F. Halt 6 at) i at E)
+  flat-ok at (Do s) E l = pick-ind (Ok 0 at) (meetsOf (table z t) (Do s) E) (λ _. (omega (arith, length-pos (Do s)), omega (arith, length-pos (Do s)), omega arith)) (λ _. tt)
+  flat-ok at (Call f m) E l = pick-ind (Ok 0 at) (meetsOf (table z t) (Call f m) E) (λ _. (omega arith, omega arith, omega arith)) (λ _. tt)
+  flat-ok at (If r e) E l = pick-ind (Ok 0 at) (typingTests (table z t) .public E r) (λ _. tt) (λ _. tt)
+  flat-ok at (Else n) E l = refl
+  flat-ok at Endif E l = refl
+  flat-ok at (While r e L) E l = pick-ind (Ok 0 at) (typingTests (table z t) .within E (envOf L)) (λ _. pick-ind (Ok 0 at) (typingTests (table z t) .public (envOf L) r) (λ _. tt) (λ _. tt)) (λ _. tt)
+  flat-ok at (Endwhile w) E l = refl
+  flat-ok at Return E l = refl
+
+  widen : (d at n : ℕ) (w : Walking Environment) → at ≤ n → n ≤ length t + 4 * d → OkBlock d n w → OkBlock d at w
+  widen d at n (Onward m E) a b h = h
+  widen d at n (Closed m E) a b h = (omega (arith, h .0), omega (arith, h .1))
+  widen d at n (Halt m p) a b h = tt
+
+  block-ok : (d : ℕ) (f : ℕ → Environment → Walking Environment) → ((p : ℕ) (E : Environment) → Ok d p (f p E)) → (k at : ℕ) (E : Environment)
+      → OkBlock d at (blockWith (table z t) (typing (table z t)) (typingTests (table z t)) f k at E)
+  unfolding blockWith
+  block-ok d f h zero at E = tt
+  block-ok d f h (suc k) at E = go (f at E) (h at E) (block-ok d f h k)
+    where
+      go : (w : Walking Environment) → Ok d at w → ((n : ℕ) (F : Environment) → OkBlock d n (blockWith (table z t) (typing (table z t)) (typingTests (table z t)) f k n F))
+          → OkBlock d at (onNext w (blockWith (table z t) (typing (table z t)) (typingTests (table z t)) f k))
+      go (Onward n F) o ih = widen d at n (blockWith (table z t) (typing (table z t)) (typingTests (table z t)) f k n F) (omega (arith, o .1)) (o .2) (ih n F)
+      go (Closed p F) o ih = (omega arith, omega arith)
+      go (Halt n p) o ih = tt
+
+  pub record-ok : (d at : ℕ) (E : Environment) → Ok d at (recordWalk z t d at E)
+  unfolding instrAt
+  record-ok zero at E = flat-ok at (recordOf z t at) E (record-inside at)
+  record-ok (suc d) at E = instr-ok d (blockWith (table z t) (typing (table z t)) (typingTests (table z t)) (recordWalk z t d) (size z t)) (block-ok d (recordWalk z t d) (record-ok d) (size z t)) at (recordOf z t at) E (record-inside at)
+
+  pub block-walk-ok : (d k at : ℕ) (E : Environment) → OkBlock d at (blockWalk z t d k at E)
+  block-walk-ok d k at E = block-ok d (recordWalk z t d) (record-ok d) k at E

@@ -1,0 +1,4 @@
+pub mod Envs
+pub mod Changes
+pub mod Walks
+pub mod Bounds

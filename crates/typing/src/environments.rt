@@ -1,0 +1,201 @@
+// Environments: within, join, and what a block's entry, a call and a packed environment make of them.
+use crate::Env;
+use crate::levels::Change;
+use crate::levels::each;
+use crate::levels::levels_within;
+use crate::levels::unpack_levels;
+use model::Packed;
+use model::Sizes;
+use model::Status;
+ghost use mathlib.Core.Path.{_≡_};
+ghost use Prim.Native.Nat.{_<_};
+ghost use Rattle.model.specs.Levels.{joinStatus, sameStatus, covers, join, within};
+ghost use Rattle.model.specs.Packing.{statusOf, envOf};
+ghost use Rattle.model.specs.Rules.{kill, guardStatus, callStatus, guarded, returned};
+ghost use Rattle.typing.specs.Envs.{levels, viewEnv, Small};
+
+// Equal statuses.
+pub fn same_status(a: Status, b: Status) -> bool
+    ensures { λ r. ⌜ r ≡ sameStatus a b ⌝ }
+{
+    match a {
+        Status::Unknown => match b {
+            Status::Unknown => true,
+            Status::Updated => false,
+            Status::Outdated(q, c) => false,
+        },
+        Status::Updated => match b {
+            Status::Unknown => false,
+            Status::Updated => true,
+            Status::Outdated(q, c) => false,
+        },
+        Status::Outdated(r, s) => match b {
+            Status::Unknown => false,
+            Status::Updated => false,
+            Status::Outdated(q, c) => same_guard(r, s, q, c),
+        },
+    }
+}
+
+fn same_guard(r: u8, s: bool, q: u8, c: bool) -> bool
+    ensures { λ x. ⌜ x ≡ sameStatus (Status.Outdated r s) (Status.Outdated q c) ⌝ }
+{
+    if r != q {
+        return false;
+    }
+    if s {
+        return c;
+    }
+    !c
+}
+
+fn covers_status(a: Status, b: Status) -> bool
+    ensures { λ r. ⌜ r ≡ covers a b ⌝ }
+{
+    match b {
+        Status::Unknown => true,
+        Status::Updated => same_status(a, b),
+        Status::Outdated(q, c) => same_status(a, b),
+    }
+}
+
+fn join_status(a: Status, b: Status) -> Status
+    ensures { λ r. ⌜ r ≡ joinStatus a b ⌝ }
+{
+    if same_status(a, b) {
+        return a;
+    }
+    Status::Unknown
+}
+
+// The status once register d is written.
+pub fn killed(d: u8, a: Status) -> Status
+    ensures { λ r. ⌜ r ≡ kill d a ⌝ }
+{
+    match a {
+        Status::Unknown => Status::Unknown,
+        Status::Updated => Status::Updated,
+        Status::Outdated(r, s) => {
+            if r == d {
+                return Status::Unknown;
+            }
+            Status::Outdated(r, s)
+        }
+    }
+}
+
+fn guard_status(r: u8, s: bool, a: Status) -> Status
+    ensures { λ x. ⌜ x ≡ guardStatus r s a ⌝ }
+{
+    match a {
+        Status::Unknown => Status::Unknown,
+        Status::Updated => Status::Outdated(r, s),
+        Status::Outdated(q, c) => Status::Unknown,
+    }
+}
+
+fn call_status(mark: bool, a: Status) -> Status
+    ensures { λ r. ⌜ r ≡ callStatus mark a ⌝ }
+{
+    if !mark {
+        return Status::Unknown;
+    }
+    match a {
+        Status::Unknown => Status::Unknown,
+        Status::Updated => Status::Updated,
+        Status::Outdated(r, s) => Status::Unknown,
+    }
+}
+
+fn status_of(b: u8) -> Status
+    ensures { λ r. ⌜ r ≡ statusOf b ⌝ }
+{
+    if b == 1 {
+        return Status::Updated;
+    }
+    Status::Unknown
+}
+
+// What seven bytes mean.
+pub fn unpack(p: Packed) -> Env
+    ensures { λ r. ⌜ viewEnv r ≡ envOf p ⌝ }
+{
+    let status = status_of(p.status);
+    let registers = unpack_levels(p.registers);
+    let arrays = unpack_levels(p.arrays);
+    Env {
+        status,
+        registers,
+        arrays,
+    }
+}
+
+// e is within f.
+pub fn env_within(z: Sizes, e: Env, f: Env) -> bool
+    requires { ⌜ Small z ⌝ }
+    ensures { λ r. ⌜ r ≡ within (z .registers) (z .arrays) (viewEnv e) (viewEnv f) ⌝ }
+{
+    let s = e.status;
+    let u = f.status;
+    if !covers_status(s, u) {
+        return false;
+    }
+    let a = e.registers;
+    let b = f.registers;
+    if !levels_within(z.registers, a, b) {
+        return false;
+    }
+    let c = e.arrays;
+    let d = f.arrays;
+    levels_within(z.arrays, c, d)
+}
+
+// The larger level slot by slot; equal statuses stay, others become unknown.
+pub fn join_envs(e: Env, f: Env) -> Env
+    ensures { λ r. ⌜ viewEnv r ≡ join (viewEnv e) (viewEnv f) ⌝ }
+{
+    let s = e.status;
+    let u = f.status;
+    let status = join_status(s, u);
+    let a = e.registers;
+    let b = f.registers;
+    let registers = each(Change::Join, a, b);
+    let c = e.arrays;
+    let d = f.arrays;
+    let arrays = each(Change::Join, c, d);
+    Env {
+        status,
+        registers,
+        arrays,
+    }
+}
+
+// Entering a block on register r, which is not zero (true) or zero (false).
+pub fn guarded_env(e: Env, r: u8, s: bool) -> Env
+    ensures { λ x. ⌜ viewEnv x ≡ guarded (viewEnv e) r s ⌝ }
+{
+    let u = e.status;
+    let status = guard_status(r, s, u);
+    let registers = e.registers;
+    let arrays = e.arrays;
+    Env {
+        status,
+        registers,
+        arrays,
+    }
+}
+
+// After a CALL: the callee's out levels.
+pub fn returned_env(out: Env, mark: bool, e: Env) -> Env
+    ensures { λ x. ⌜ viewEnv x ≡ returned (viewEnv out) mark (viewEnv e) ⌝ }
+{
+    let u = out.status;
+    let status = call_status(mark, u);
+    let registers = out.registers;
+    let arrays = out.arrays;
+    Env {
+        status,
+        registers,
+        arrays,
+    }
+}

@@ -1,0 +1,231 @@
+// The rules for single records: what a record asks of the environment, and the environment after it.
+use crate::Env;
+use crate::environments::killed;
+use crate::environments::same_status;
+use crate::levels::Change;
+use crate::levels::each;
+use crate::levels::larger;
+use crate::levels::level;
+use crate::levels::settled;
+use crate::levels::with_level;
+use model::Simple;
+use model::Sizes;
+use model::Status;
+ghost use mathlib.Core.Path.{_≡_};
+ghost use Prim.Native.Nat.{_<_, max};
+ghost use lib.Dec.{eqb};
+ghost use Rattle.model.specs.Decide.{meets, simpleNumber};
+ghost use Rattle.model.specs.Levels.{sameStatus};
+ghost use Rattle.model.specs.Records.{SimpleFits};
+ghost use Rattle.model.specs.Rules.{written, stored, fenced, updated, protected, after};
+ghost use Rattle.typing.specs.Envs.{viewEnv, Small};
+
+// Register i is public.
+pub fn is_public(e: Env, i: u8) -> bool
+    ensures { λ r. ⌜ r ≡ eqb (viewEnv e .regs i) 0 ⌝ }
+{
+    let a = e.registers;
+    level(a, i) == 0
+}
+
+fn has_status(e: Env, s: Status) -> bool
+    ensures { λ r. ⌜ r ≡ sameStatus (viewEnv e .status) s ⌝ }
+{
+    let a = e.status;
+    same_status(a, s)
+}
+
+// The environment gives a simple record what it asks.
+pub fn is_met(s: Simple, e: Env) -> bool
+    ensures { λ r. ⌜ r ≡ meets s (viewEnv e) ⌝ }
+{
+    match s {
+        Simple::Const { dest, value } => true,
+        Simple::Op {
+            dest,
+            op,
+            left,
+            right,
+        } => true,
+        Simple::Select {
+            dest,
+            cond,
+            yes,
+            no,
+        } => true,
+        Simple::Load { dest, array, index } => is_public(e, index),
+        Simple::Store {
+            array,
+            index,
+            source,
+        } => is_public(e, index),
+        Simple::Init => true,
+        Simple::Update { register, sense } => has_status(e, Status::Outdated(register, sense)),
+        Simple::Protect { dest, source } => has_status(e, Status::Updated),
+    }
+}
+
+// The number of a simple record's fault; 0 where it has none.
+pub fn number_of(s: Simple) -> u8
+    ensures { λ r. ⌜ r ≡ simpleNumber s ⌝ }
+{
+    match s {
+        Simple::Const { dest, value } => 0,
+        Simple::Op {
+            dest,
+            op,
+            left,
+            right,
+        } => 0,
+        Simple::Select {
+            dest,
+            cond,
+            yes,
+            no,
+        } => 0,
+        Simple::Load { dest, array, index } => 10,
+        Simple::Store {
+            array,
+            index,
+            source,
+        } => 10,
+        Simple::Init => 0,
+        Simple::Update { register, sense } => 11,
+        Simple::Protect { dest, source } => 11,
+    }
+}
+
+// Register d written at level l.
+fn written_env(e: Env, d: u8, l: u8) -> Env
+    requires { ⌜ d < 16 ⌝ }
+    ensures { λ r. ⌜ viewEnv r ≡ written (viewEnv e) d l ⌝ }
+{
+    let a = e.registers;
+    let registers = with_level(a, d, l);
+    let s = e.status;
+    let status = killed(d, s);
+    let arrays = e.arrays;
+    Env {
+        status,
+        registers,
+        arrays,
+    }
+}
+
+fn after_op(e: Env, dest: u8, left: u8, right: u8) -> Env
+    requires { ⌜ dest < 16 ⌝ }
+    ensures { λ r. ⌜ viewEnv r ≡ written (viewEnv e) dest (max (viewEnv e .regs left) (viewEnv e .regs right)) ⌝ }
+{
+    let a = e.registers;
+    written_env(e, dest, larger(level(a, left), level(a, right)))
+}
+
+fn after_select(e: Env, dest: u8, cond: u8, yes: u8, no: u8) -> Env
+    requires { ⌜ dest < 16 ⌝ }
+    ensures { λ r. ⌜ viewEnv r ≡ written (viewEnv e) dest (max (viewEnv e .regs cond) (max (viewEnv e .regs yes) (viewEnv e .regs no))) ⌝ }
+{
+    let a = e.registers;
+    written_env(
+        e,
+        dest,
+        larger(level(a, cond), larger(level(a, yes), level(a, no))),
+    )
+}
+
+// A stray read may find anything that is not public: never public.
+fn after_load(e: Env, dest: u8, array: u8) -> Env
+    requires { ⌜ dest < 16 ⌝ }
+    ensures { λ r. ⌜ viewEnv r ≡ written (viewEnv e) dest (max 1 (viewEnv e .arrays array)) ⌝ }
+{
+    let a = e.arrays;
+    written_env(e, dest, larger(1, level(a, array)))
+}
+
+// A stray write may reach every array.
+fn after_store(z: Sizes, e: Env, array: u8, source: u8) -> Env
+    requires { ⌜ Small z × (array < 16) ⌝ }
+    ensures { λ r. ⌜ viewEnv r ≡ stored (z .arrays) (viewEnv e) array source ⌝ }
+{
+    let registers = e.registers;
+    let l = level(registers, source);
+    let a = e.arrays;
+    let named = larger(level(a, array), l);
+    let others = each(Change::Beside(z.arrays, l), a, a);
+    let arrays = with_level(others, array, named);
+    let status = e.status;
+    Env {
+        status,
+        registers,
+        arrays,
+    }
+}
+
+fn after_init(e: Env) -> Env
+    ensures { λ r. ⌜ viewEnv r ≡ fenced (viewEnv e) ⌝ }
+{
+    let a = e.registers;
+    let registers = each(Change::Settle, a, a);
+    let arrays = e.arrays;
+    Env {
+        status: Status::Updated,
+        registers,
+        arrays,
+    }
+}
+
+fn after_update(e: Env) -> Env
+    ensures { λ r. ⌜ viewEnv r ≡ updated (viewEnv e) ⌝ }
+{
+    let registers = e.registers;
+    let arrays = e.arrays;
+    Env {
+        status: Status::Updated,
+        registers,
+        arrays,
+    }
+}
+
+fn after_protect(e: Env, dest: u8, source: u8) -> Env
+    requires { ⌜ dest < 16 ⌝ }
+    ensures { λ r. ⌜ viewEnv r ≡ protected (viewEnv e) dest source ⌝ }
+{
+    let a = e.registers;
+    let registers = with_level(a, dest, settled(level(a, source)));
+    let arrays = e.arrays;
+    Env {
+        status: Status::Updated,
+        registers,
+        arrays,
+    }
+}
+
+// The environment after a simple record whose fields are in range.
+pub fn after_simple(z: Sizes, s: Simple, e: Env) -> Env
+    requires { ⌜ Small z × SimpleFits (z .registers) (z .arrays) s ⌝ }
+    ensures { λ r. ⌜ viewEnv r ≡ after (z .arrays) s (viewEnv e) ⌝ }
+{
+    match s {
+        Simple::Const { dest, value } => written_env(e, dest, 0),
+        Simple::Op {
+            dest,
+            op,
+            left,
+            right,
+        } => after_op(e, dest, left, right),
+        Simple::Select {
+            dest,
+            cond,
+            yes,
+            no,
+        } => after_select(e, dest, cond, yes, no),
+        Simple::Load { dest, array, index } => after_load(e, dest, array),
+        Simple::Store {
+            array,
+            index,
+            source,
+        } => after_store(z, e, array, source),
+        Simple::Init => after_init(e),
+        Simple::Update { register, sense } => after_update(e),
+        Simple::Protect { dest, source } => after_protect(e, dest, source),
+    }
+}

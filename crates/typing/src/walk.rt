@@ -1,0 +1,261 @@
+// The typing walk: blocks and records in table order, the environment carried along. The readers' cycle once more: what falls
+// is the nesting that is left, and within a block the bytes left.
+use crate::Env;
+use crate::Walk;
+use crate::environments::env_within;
+use crate::environments::guarded_env;
+use crate::environments::join_envs;
+use crate::environments::returned_env;
+use crate::environments::unpack;
+use crate::rules::after_simple;
+use crate::rules::is_met;
+use crate::rules::is_public;
+use crate::rules::number_of;
+use format::Decoded;
+use model::Packed;
+use model::Record;
+use model::Simple;
+use model::Sizes;
+use model::Typing;
+use model::Walked;
+ghost use mathlib.Core.Path.{_≡_};
+ghost use Prim.Native.Nat.{_+_, _-_, _<_, _≤_};
+ghost use lib.ListN.{length};
+ghost use Rattle.model.specs.Records.{SimpleFits};
+ghost use Rattle.model.specs.Typing.{typeFrom};
+ghost use Rattle.model.specs.Walk.{Shut as Closed};
+ghost use Rattle.typing.specs.Envs.{viewEnv, Small, Ready};
+ghost use Rattle.typing.specs.Walks.{viewWalk, Close, bare, simpleWalk, callWalk, joinWalk, backWalk, table, size, recordWalk, blockWalk, ifWalk, whileWalk, functionWalk};
+
+// The simple record at `at`, with `next` after it.
+fn simple(z: Sizes, s: Simple, at: usize, next: usize, e: Env) -> Walk
+    requires { ⌜ Small z × SimpleFits (z .registers) (z .arrays) s ⌝ }
+    ensures { λ r. ⌜ viewWalk r ≡ simpleWalk z s at next (viewEnv e) ⌝ }
+{
+    if is_met(s, e) {
+        let env = after_simple(z, s, e);
+        return Walk {
+            to: Walked::Next(next),
+            env,
+        };
+    }
+    Walk {
+        to: Walked::Fault(number_of(s), at),
+        env: e,
+    }
+}
+
+// The CALL of a function at `at`, with `next` after it.
+fn call(t: &[u8], z: Sizes, function: u8, mark: bool, at: usize, next: usize, e: Env) -> Walk
+    requires { ⌜ Small z ⌝ }
+    ensures { λ r. ⌜ viewWalk r ≡ callWalk z (now (t .entry)) function mark at next (viewEnv e) ⌝ }
+{
+    let into = unpack(format::in_of(t, z, function));
+    if env_within(z, e, into) {
+        let out = unpack(format::out_of(t, z, function));
+        let env = returned_env(out, mark, e);
+        return Walk {
+            to: Walked::Next(next),
+            env,
+        };
+    }
+    Walk {
+        to: Walked::Fault(13, at),
+        env: e,
+    }
+}
+
+// The IF on a register at `at`: both blocks, then their join.
+fn branch(t: &[u8], z: Sizes, at: usize, register: u8, depth: u8, e: Env) -> Walk
+    requires { ⌜ Ready z (now t) (at + 4) × (at + 4 ≤ length (now t)) ⌝ }
+    ensures { λ r. ⌜ viewWalk r ≡ ifWalk z (now (t .entry)) depth at register (viewEnv e) ⌝ }
+{
+    if !is_public(e, register) {
+        return fault(10, at, e);
+    }
+    if depth == 0 {
+        return fault(6, at, e);
+    }
+    let inside = guarded_env(e, register, true);
+    let first = block(t, z, at + 4, depth - 1, inside);
+    let to1 = first.to;
+    let env1 = first.env;
+    match to1 {
+        Walked::Next(p) => fault(3, p, env1),
+        Walked::Fault(n, p) => fault(n, p, env1),
+        Walked::Shut(p) => {
+            let other = guarded_env(e, register, false);
+            let second = block(t, z, p + 3, depth - 1, other);
+            joined(env1, second)
+        }
+    }
+}
+
+fn fault(n: u8, p: usize, env: Env) -> Walk
+    ensures { λ r. ⌜ r .to ≡ Walked.Fault n p ⌝ }
+{
+    Walk {
+        to: Walked::Fault(n, p),
+        env,
+    }
+}
+
+// The end of an IF whose first block ended in env1.
+fn joined(env1: Env, second: Walk) -> Walk
+    requires { ⌜ Close (second .to) ⌝ }
+    ensures { λ r. ⌜ viewWalk r ≡ joinWalk (viewEnv env1) (viewWalk second) ⌝ }
+{
+    let to = second.to;
+    let env2 = second.env;
+    match to {
+        Walked::Next(q) => fault(3, q, env2),
+        Walked::Fault(n, q) => fault(n, q, env2),
+        Walked::Shut(q) => {
+            let env = join_envs(env1, env2);
+            Walk {
+                to: Walked::Next(q + 1),
+                env,
+            }
+        }
+    }
+}
+
+// The WHILE on a register at `at`, with its loop environment. What arrives is compared before the guard is looked at.
+fn repeat(t: &[u8], z: Sizes, at: usize, register: u8, packed: Packed, depth: u8, e: Env) -> Walk
+    requires { ⌜ Ready z (now t) (at + 11) × (at + 11 ≤ length (now t)) ⌝ }
+    ensures { λ r. ⌜ viewWalk r ≡ whileWalk z (now (t .entry)) depth at register packed (viewEnv e) ⌝ }
+{
+    let kept = unpack(packed);
+    if !env_within(z, e, kept) {
+        return fault(12, at, e);
+    }
+    if !is_public(kept, register) {
+        return fault(10, at, e);
+    }
+    if depth == 0 {
+        return fault(6, at, e);
+    }
+    let inside = guarded_env(kept, register, true);
+    let body = block(t, z, at + 11, depth - 1, inside);
+    back(z, register, packed, body)
+}
+
+// The end of a loop's body: back to the loop environment, and past the loop.
+fn back(z: Sizes, register: u8, packed: Packed, body: Walk) -> Walk
+    requires { ⌜ Small z × Close (body .to) ⌝ }
+    ensures { λ r. ⌜ viewWalk r ≡ backWalk z register packed (viewWalk body) ⌝ }
+{
+    let to = body.to;
+    let env1 = body.env;
+    match to {
+        Walked::Next(p) => fault(3, p, env1),
+        Walked::Fault(n, p) => fault(n, p, env1),
+        Walked::Shut(p) => {
+            let kept = unpack(packed);
+            if !env_within(z, env1, kept) {
+                return fault(12, p, env1);
+            }
+            let env = guarded_env(kept, register, false);
+            Walk {
+                to: Walked::Next(p + 3),
+                env,
+            }
+        }
+    }
+}
+
+// The record at `at`. Where none can be read, RETURN stands for it.
+fn one(t: &[u8], z: Sizes, at: usize, depth: u8, e: Env) -> Walk
+    requires { ⌜ Ready z (now t) at ⌝ }
+    ensures { λ r. ⌜ viewWalk r ≡ recordWalk z (now (t .entry)) depth at (viewEnv e) ⌝ }
+{
+    let d = format::decode(t, at, z);
+    match d {
+        Decoded::Bad(n, p) => shut(at, e),
+        Decoded::Got(r, next) => match r {
+            Record::Do(s) => simple(z, s, at, next, e),
+            Record::Call { function, mark } => call(t, z, function, mark, at, next, e),
+            Record::If { register, to } => branch(t, z, at, register, depth, e),
+            Record::Else { to } => shut(at, e),
+            Record::Endif => shut(at, e),
+            Record::While { register, to, env } => repeat(t, z, at, register, env, depth, e),
+            Record::Endwhile { to } => shut(at, e),
+            Record::Return => shut(at, e),
+        },
+    }
+}
+
+fn shut(at: usize, env: Env) -> Walk
+    ensures { λ r. ⌜ viewWalk r ≡ Closed at (viewEnv env) ⌝ }
+{
+    Walk {
+        to: Walked::Shut(at),
+        env,
+    }
+}
+
+// The records from `from` on, up to the one that closes the block.
+fn block(t: &[u8], z: Sizes, from: usize, depth: u8, env: Env) -> Walk
+    requires { ⌜ Ready z (now t) from × (depth ≤ 16) ⌝ }
+    ensures { λ r. ⌜ viewWalk r ≡ blockWalk z (now (t .entry)) depth (size z (now (t .entry))) from (viewEnv env) ⌝ }
+{
+    let mut at = from;
+    let mut e = env;
+    loop {
+        let w = one(t, z, at, depth, e);
+        let to = w.to;
+        let f = w.env;
+        match to {
+            Walked::Next(n) => {
+                at = n;
+                e = f;
+            }
+            Walked::Shut(p) => {
+                return shut(p, f);
+            }
+            Walked::Fault(n, p) => {
+                return fault(n, p, f);
+            }
+        }
+    }
+}
+
+// Function g, from its in-environment to its RETURN.
+fn function(t: &[u8], z: Sizes, g: u8) -> Walked
+    requires { ⌜ Ready z (now t) 0 ⌝ }
+    ensures { λ r. ⌜ r ≡ bare (functionWalk z (now (t .entry)) g) ⌝ }
+{
+    let start = format::start_of(t, z, g);
+    let into = unpack(format::in_of(t, z, g));
+    let w = block(t, z, start, 16, into);
+    let to = w.to;
+    let e = w.env;
+    match to {
+        Walked::Next(p) => Walked::Fault(3, p),
+        Walked::Fault(n, p) => Walked::Fault(n, p),
+        Walked::Shut(p) => {
+            let out = unpack(format::out_of(t, z, g));
+            if env_within(z, e, out) {
+                return Walked::Shut(p);
+            }
+            Walked::Fault(14, p)
+        }
+    }
+}
+
+// The last n functions, in table order.
+pub fn functions(t: &[u8], z: Sizes, n: u8) -> Typing
+    requires { ⌜ Ready z (now t) 0 × (n ≤ z .functions) ⌝ }
+    ensures { λ r. ⌜ r ≡ typeFrom (table z (now (t .entry))) (size z (now (t .entry))) n ⌝ }
+{
+    if n == 0 {
+        return Typing::Passes;
+    }
+    let g = z.functions - n;
+    let w = function(t, z, g);
+    match w {
+        Walked::Next(p) => Typing::Fault(3, p),
+        Walked::Fault(k, p) => Typing::Fault(k, p),
+        Walked::Shut(p) => functions(t, z, n - 1),
+    }
+}
