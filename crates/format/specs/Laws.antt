@@ -19,11 +19,11 @@ use Rattle.format.specs.declared.Decoded.the-variants.{Got, Bad}
 use Rattle.format.specs.Format.{byte, word16, shaped, Row, rowsOf, byRow, rowAt, decodeAt}
 
 -- every test of a list holds
-abbrev Trues : List Bool → Type 0
+abbrev pub Trues : List Bool → Type 0
 Trues [] = Unit {0}
 Trues (b ∷ bs) = (b ≡ true) × Trues bs
 
-trues : (bs : List Bool) → all bs ≡ true → Trues bs
+pub trues : (bs : List Bool) → all bs ≡ true → Trues bs
 trues [] h = tt
 trues (true ∷ bs) h = (refl, trues bs h)
 trues (false ∷ bs) h = absurd (true≢false (sym h))

@@ -171,7 +171,7 @@ fn less(a: u8, b: u8) -> u8
 }
 
 // The last n functions, and nothing after them.
-pub fn functions(t: &[u8], z: Sizes, n: u8, at: usize) -> To
+pub(crate) fn functions(t: &[u8], z: Sizes, n: u8, at: usize) -> To
     ensures { λ r. ⌜ r ≡ functionsAt z (now (t .entry)) n at ⌝ }
 {
     if n == 0 {

@@ -17,8 +17,9 @@ pub record Small (z : Sizes) : Type 0 where
   pub registers : z .registers ≤ 16
   pub arrays : z .arrays ≤ 16
 
--- a table that has been read, and a place not far beyond it
-pub record Ready (z : Sizes) (t : List ℕ) (at : ℕ) : Type 0 where
+-- a table that has been read, a place not far beyond it, a nesting within the limit
+pub record Ready (z : Sizes) (t : List ℕ) (at depth : ℕ) : Type 0 where
   pub small : Small z
   pub short : length t ≤ 32768
   pub near : at ≤ 100000
+  pub shallow : depth ≤ 16

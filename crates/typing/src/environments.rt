@@ -15,7 +15,7 @@ ghost use Rattle.model.specs.Rules.{kill, guardStatus, callStatus, guarded, ret
 ghost use Rattle.typing.specs.Envs.{levels, viewEnv, Small};
 
 // Equal statuses.
-pub fn same_status(a: Status, b: Status) -> bool
+pub(crate) fn same_status(a: Status, b: Status) -> bool
     ensures { λ r. ⌜ r ≡ sameStatus a b ⌝ }
 {
     match a {
@@ -69,7 +69,7 @@ fn join_status(a: Status, b: Status) -> Status
 }
 
 // The status once register d is written.
-pub fn killed(d: u8, a: Status) -> Status
+pub(crate) fn killed(d: u8, a: Status) -> Status
     ensures { λ r. ⌜ r ≡ kill d a ⌝ }
 {
     match a {
@@ -117,7 +117,7 @@ fn status_of(b: u8) -> Status
 }
 
 // What seven bytes mean.
-pub fn unpack(p: Packed) -> Env
+pub(crate) fn unpack(p: Packed) -> Env
     ensures { λ r. ⌜ viewEnv r ≡ envOf p ⌝ }
 {
     let status = status_of(p.status);
@@ -131,7 +131,7 @@ pub fn unpack(p: Packed) -> Env
 }
 
 // e is within f.
-pub fn env_within(z: Sizes, e: Env, f: Env) -> bool
+pub(crate) fn env_within(z: Sizes, e: Env, f: Env) -> bool
     requires { ⌜ Small z ⌝ }
     ensures { λ r. ⌜ r ≡ within (z .registers) (z .arrays) (viewEnv e) (viewEnv f) ⌝ }
 {
@@ -151,7 +151,7 @@ pub fn env_within(z: Sizes, e: Env, f: Env) -> bool
 }
 
 // The larger level slot by slot; equal statuses stay, others become unknown.
-pub fn join_envs(e: Env, f: Env) -> Env
+pub(crate) fn join_envs(e: Env, f: Env) -> Env
     ensures { λ r. ⌜ viewEnv r ≡ join (viewEnv e) (viewEnv f) ⌝ }
 {
     let s = e.status;
@@ -171,7 +171,7 @@ pub fn join_envs(e: Env, f: Env) -> Env
 }
 
 // Entering a block on register r, which is not zero (true) or zero (false).
-pub fn guarded_env(e: Env, r: u8, s: bool) -> Env
+pub(crate) fn guarded_env(e: Env, r: u8, s: bool) -> Env
     ensures { λ x. ⌜ viewEnv x ≡ guarded (viewEnv e) r s ⌝ }
 {
     let u = e.status;
@@ -186,7 +186,7 @@ pub fn guarded_env(e: Env, r: u8, s: bool) -> Env
 }
 
 // After a CALL: the callee's out levels.
-pub fn returned_env(out: Env, mark: bool, e: Env) -> Env
+pub(crate) fn returned_env(out: Env, mark: bool, e: Env) -> Env
     ensures { λ x. ⌜ viewEnv x ≡ returned (viewEnv out) mark (viewEnv e) ⌝ }
 {
     let u = out.status;

@@ -10,21 +10,21 @@ ghost use Rattle.typing.specs.Envs.{levels};
 
 // What is done to every slot: the larger of two levels; a transient one made public; of so many arrays, the public ones
 // made transient if a source is not public.
-pub enum Change {
+pub(crate) enum Change {
     Join,
     Settle,
     Beside(u8, u8),
 }
 
 // The larger of two levels.
-pub fn larger(a: u8, b: u8) -> u8
+pub(crate) fn larger(a: u8, b: u8) -> u8
     ensures { λ r. ⌜ r ≡ max a b ⌝ }
 {
     if a < b { b } else { a }
 }
 
 // A transient level made public.
-pub fn settled(a: u8) -> u8
+pub(crate) fn settled(a: u8) -> u8
     ensures { λ r. ⌜ r ≡ settle a ⌝ }
 {
     if a <= 1 {
@@ -57,7 +57,7 @@ fn changed(how: Change, i: u8, a: u8, b: u8) -> u8
 }
 
 // Every slot of a, changed beside the same slot of b.
-pub fn each(how: Change, a: [u8; 16], b: [u8; 16]) -> [u8; 16]
+pub(crate) fn each(how: Change, a: [u8; 16], b: [u8; 16]) -> [u8; 16]
     requires { ⌜ Keeps how ⌝ }
     ensures { λ r. ⌜ levels r ≡ changeAll how (levels a) (levels b) ⌝ }
 {
@@ -72,7 +72,7 @@ pub fn each(how: Change, a: [u8; 16], b: [u8; 16]) -> [u8; 16]
 }
 
 // The level in slot i; past the slots it is public.
-pub fn level(a: [u8; 16], i: u8) -> u8
+pub(crate) fn level(a: [u8; 16], i: u8) -> u8
     ensures { λ r. ⌜ r ≡ levels a i ⌝ }
 {
     let k = i as usize;
@@ -83,7 +83,7 @@ pub fn level(a: [u8; 16], i: u8) -> u8
 }
 
 // Slot i at level v.
-pub fn with_level(a: [u8; 16], i: u8, v: u8) -> [u8; 16]
+pub(crate) fn with_level(a: [u8; 16], i: u8, v: u8) -> [u8; 16]
     requires { ⌜ i < 16 ⌝ }
     ensures { λ r. ⌜ levels r ≡ put (levels a) i v ⌝ }
 {
@@ -94,7 +94,7 @@ pub fn with_level(a: [u8; 16], i: u8, v: u8) -> [u8; 16]
 }
 
 // Of the first n slots, each of a is at most that of b.
-pub fn levels_within(n: u8, a: [u8; 16], b: [u8; 16]) -> bool
+pub(crate) fn levels_within(n: u8, a: [u8; 16], b: [u8; 16]) -> bool
     requires { ⌜ n ≤ 16 ⌝ }
     ensures { λ r. ⌜ r ≡ levelsWithin n (levels a) (levels b) ⌝ }
 {
@@ -110,7 +110,7 @@ pub fn levels_within(n: u8, a: [u8; 16], b: [u8; 16]) -> bool
 }
 
 // The slots of a packed word, two bits each, slot 0 lowest.
-pub fn unpack_levels(word: u32) -> [u8; 16]
+pub(crate) fn unpack_levels(word: u32) -> [u8; 16]
     ensures { λ r. ⌜ levels r ≡ slot word ⌝ }
 {
     let mut x = [0u8; 16];

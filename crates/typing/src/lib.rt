@@ -5,7 +5,7 @@ use model::Walked;
 mod environments;
 mod levels;
 mod rules;
-mod walk;
+mod walks;
 
 // An environment: a status, and a level for each register and array. Slots that a table does not use are never looked at.
 pub struct Env {

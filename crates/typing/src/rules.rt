@@ -21,7 +21,7 @@ ghost use Rattle.model.specs.Rules.{written, stored, fenced, updated, protected
 ghost use Rattle.typing.specs.Envs.{viewEnv, Small};
 
 // Register i is public.
-pub fn is_public(e: Env, i: u8) -> bool
+pub(crate) fn is_public(e: Env, i: u8) -> bool
     ensures { λ r. ⌜ r ≡ eqb (viewEnv e .regs i) 0 ⌝ }
 {
     let a = e.registers;
@@ -36,7 +36,7 @@ fn has_status(e: Env, s: Status) -> bool
 }
 
 // The environment gives a simple record what it asks.
-pub fn is_met(s: Simple, e: Env) -> bool
+pub(crate) fn is_met(s: Simple, e: Env) -> bool
     ensures { λ r. ⌜ r ≡ meets s (viewEnv e) ⌝ }
 {
     match s {
@@ -66,7 +66,7 @@ pub fn is_met(s: Simple, e: Env) -> bool
 }
 
 // The number of a simple record's fault; 0 where it has none.
-pub fn number_of(s: Simple) -> u8
+pub(crate) fn number_of(s: Simple) -> u8
     ensures { λ r. ⌜ r ≡ simpleNumber s ⌝ }
 {
     match s {
@@ -200,7 +200,7 @@ fn after_protect(e: Env, dest: u8, source: u8) -> Env
 }
 
 // The environment after a simple record whose fields are in range.
-pub fn after_simple(z: Sizes, s: Simple, e: Env) -> Env
+pub(crate) fn after_simple(z: Sizes, s: Simple, e: Env) -> Env
     requires { ⌜ Small z × SimpleFits (z .registers) (z .arrays) s ⌝ }
     ensures { λ r. ⌜ viewEnv r ≡ after (z .arrays) s (viewEnv e) ⌝ }
 {

@@ -67,7 +67,7 @@ fn call(t: &[u8], z: Sizes, function: u8, mark: bool, at: usize, next: usize, e:
 
 // The IF on a register at `at`: both blocks, then their join.
 fn branch(t: &[u8], z: Sizes, at: usize, register: u8, depth: u8, e: Env) -> Walk
-    requires { ⌜ Ready z (now t) (at + 4) × (at + 4 ≤ length (now t)) ⌝ }
+    requires { ⌜ Ready z (now t) at depth × (at + 4 ≤ length (now t)) ⌝ }
     ensures { λ r. ⌜ viewWalk r ≡ ifWalk z (now (t .entry)) depth at register (viewEnv e) ⌝ }
 {
     if !is_public(e, register) {
@@ -122,7 +122,7 @@ fn joined(env1: Env, second: Walk) -> Walk
 
 // The WHILE on a register at `at`, with its loop environment. What arrives is compared before the guard is looked at.
 fn repeat(t: &[u8], z: Sizes, at: usize, register: u8, packed: Packed, depth: u8, e: Env) -> Walk
-    requires { ⌜ Ready z (now t) (at + 11) × (at + 11 ≤ length (now t)) ⌝ }
+    requires { ⌜ Ready z (now t) at depth × (at + 11 ≤ length (now t)) ⌝ }
     ensures { λ r. ⌜ viewWalk r ≡ whileWalk z (now (t .entry)) depth at register packed (viewEnv e) ⌝ }
 {
     let kept = unpack(packed);
@@ -166,7 +166,7 @@ fn back(z: Sizes, register: u8, packed: Packed, body: Walk) -> Walk
 
 // The record at `at`. Where none can be read, RETURN stands for it.
 fn one(t: &[u8], z: Sizes, at: usize, depth: u8, e: Env) -> Walk
-    requires { ⌜ Ready z (now t) at ⌝ }
+    requires { ⌜ Ready z (now t) at depth ⌝ }
     ensures { λ r. ⌜ viewWalk r ≡ recordWalk z (now (t .entry)) depth at (viewEnv e) ⌝ }
 {
     let d = format::decode(t, at, z);
@@ -196,7 +196,7 @@ fn shut(at: usize, env: Env) -> Walk
 
 // The records from `from` on, up to the one that closes the block.
 fn block(t: &[u8], z: Sizes, from: usize, depth: u8, env: Env) -> Walk
-    requires { ⌜ Ready z (now t) from × (depth ≤ 16) ⌝ }
+    requires { ⌜ Ready z (now t) from depth ⌝ }
     ensures { λ r. ⌜ viewWalk r ≡ blockWalk z (now (t .entry)) depth (size z (now (t .entry))) from (viewEnv env) ⌝ }
 {
     let mut at = from;
@@ -222,7 +222,7 @@ fn block(t: &[u8], z: Sizes, from: usize, depth: u8, env: Env) -> Walk
 
 // Function g, from its in-environment to its RETURN.
 fn function(t: &[u8], z: Sizes, g: u8) -> Walked
-    requires { ⌜ Ready z (now t) 0 ⌝ }
+    requires { ⌜ Ready z (now t) 0 16 ⌝ }
     ensures { λ r. ⌜ r ≡ bare (functionWalk z (now (t .entry)) g) ⌝ }
 {
     let start = format::start_of(t, z, g);
@@ -244,8 +244,8 @@ fn function(t: &[u8], z: Sizes, g: u8) -> Walked
 }
 
 // The last n functions, in table order.
-pub fn functions(t: &[u8], z: Sizes, n: u8) -> Typing
-    requires { ⌜ Ready z (now t) 0 × (n ≤ z .functions) ⌝ }
+pub(crate) fn functions(t: &[u8], z: Sizes, n: u8) -> Typing
+    requires { ⌜ Ready z (now t) 0 16 × (n ≤ z .functions) ⌝ }
     ensures { λ r. ⌜ r ≡ typeFrom (table z (now (t .entry))) (size z (now (t .entry))) n ⌝ }
 {
     if n == 0 {

@@ -1,0 +1,84 @@
+use borrow.Author.Needs.{needs}
+use Rattle.typing.proofs.walks.back.Statement.{statement}
+use Rattle.typing.proofs.walks.back.Tie as tie
+use Rattle.typing.proofs.walks.back.Reads as reads
+use Rattle.typing.proofs.walks.back.Lts as lts
+use Rattle.typing.proofs.environments.env_within.Reads as env-within-reads
+use Rattle.typing.proofs.environments.guarded_env.Reads as guarded-env-reads
+use Rattle.typing.proofs.environments.unpack.Reads as unpack-reads
+use Rattle.typing.proofs.walks.fault.Reads as fault-reads
+
+-- src/walks.rt:151:22
+enum-known-to : tie.Need-enum-known-to
+enum-known-to c = search needs
+
+-- src/walks.rt:151:28
+fault-requires : tie.Need-fault-requires
+fault-requires c κs = search needs
+
+-- src/walks.rt:152:23
+enum-known-to-2 : tie.Need-enum-known-to-2
+enum-known-to-2 c = search needs
+
+-- src/walks.rt:152:32
+fault-requires-2 : tie.Need-fault-requires-2
+fault-requires-2 c κs = search needs
+
+-- src/walks.rt:153:22
+enum-known-to-3 : tie.Need-enum-known-to-3
+enum-known-to-3 c = search needs
+
+-- src/walks.rt:154:17
+unpack-requires : tie.Need-unpack-requires
+unpack-requires c κs = search needs
+
+-- src/walks.rt:155:17
+env-within-requires : tie.Need-env-within-requires
+env-within-requires c κs = search needs
+
+-- src/walks.rt:156:17
+fault-requires-3 : tie.Need-fault-requires-3
+fault-requires-3 c κs = search needs
+
+-- src/walks.rt:156:17
+returns : tie.Need-returns
+returns c = ?
+
+-- src/walks.rt:158:17
+guarded-env-requires : tie.Need-guarded-env-requires
+guarded-env-requires c κs = search needs
+
+-- src/walks.rt:160:34
+add-t16 : tie.Need-add-t16
+add-t16 c = ?
+
+-- src/walks.rt:144:1
+returns-2 : tie.Need-returns-2
+returns-2 c = ?
+
+-- src/walks.rt:144:1
+returns-3 : tie.Need-returns-3
+returns-3 c = ?
+
+-- src/walks.rt:144:1
+returns-4 : tie.Need-returns-4
+returns-4 c = ?
+
+pub back-spec : {M : Type 1} → statement M
+back-spec =
+    tie.close
+    (tie.spec
+    enum-known-to
+    fault-requires
+    enum-known-to-2
+    fault-requires-2
+    enum-known-to-3
+    unpack-requires
+    env-within-requires
+    fault-requires-3
+    returns
+    guarded-env-requires
+    add-t16
+    returns-2
+    returns-3
+    returns-4)

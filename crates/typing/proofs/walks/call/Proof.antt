@@ -1,0 +1,55 @@
+use borrow.Author.Needs.{needs}
+use Rattle.typing.proofs.walks.call.Statement.{statement}
+use Rattle.typing.proofs.walks.call.Tie as tie
+use Rattle.typing.proofs.walks.call.Reads as reads
+use Rattle.typing.proofs.walks.call.Lts as lts
+use Rattle.format.proofs.in_of.Reads as in-of-reads
+use Rattle.format.proofs.out_of.Reads as out-of-reads
+use Rattle.typing.proofs.environments.env_within.Reads as env-within-reads
+use Rattle.typing.proofs.environments.returned_env.Reads as returned-env-reads
+use Rattle.typing.proofs.environments.unpack.Reads as unpack-reads
+
+-- src/walks.rt:53:23
+in-of-requires : tie.Need-in-of-requires
+in-of-requires c κs = search needs
+
+-- src/walks.rt:53:9
+unpack-requires : tie.Need-unpack-requires
+unpack-requires c κs = search needs
+
+-- src/walks.rt:54:8
+env-within-requires : tie.Need-env-within-requires
+env-within-requires c κs = search needs
+
+-- src/walks.rt:55:26
+out-of-requires : tie.Need-out-of-requires
+out-of-requires c κs = search needs
+
+-- src/walks.rt:55:13
+unpack-requires-2 : tie.Need-unpack-requires-2
+unpack-requires-2 c κs = search needs
+
+-- src/walks.rt:56:13
+returned-env-requires : tie.Need-returned-env-requires
+returned-env-requires c κs = search needs
+
+-- src/walks.rt:57:9
+returns : tie.Need-returns
+returns c = ?
+
+-- src/walks.rt:49:1
+returns-2 : tie.Need-returns-2
+returns-2 c = ?
+
+pub call-spec : {M : Type 1} → statement M
+call-spec =
+    tie.close
+    (tie.spec
+    in-of-requires
+    unpack-requires
+    env-within-requires
+    out-of-requires
+    unpack-requires-2
+    returned-env-requires
+    returns
+    returns-2)

@@ -1,0 +1,32 @@
+use borrow.Author.Needs.{needs}
+use Rattle.typing.proofs.walks.simple.Statement.{statement}
+use Rattle.typing.proofs.walks.simple.Tie as tie
+use Rattle.typing.proofs.walks.simple.Reads as reads
+use Rattle.typing.proofs.walks.simple.Lts as lts
+use Rattle.typing.proofs.rules.after_simple.Reads as after-simple-reads
+use Rattle.typing.proofs.rules.is_met.Reads as is-met-reads
+use Rattle.typing.proofs.rules.number_of.Reads as number-of-reads
+
+-- src/walks.rt:35:8
+is-met-requires : tie.Need-is-met-requires
+is-met-requires c κs = search needs
+
+-- src/walks.rt:36:13
+after-simple-requires : tie.Need-after-simple-requires
+after-simple-requires c κs = search needs
+
+-- src/walks.rt:37:9
+returns : tie.Need-returns
+returns c = ?
+
+-- src/walks.rt:43:27
+number-of-requires : tie.Need-number-of-requires
+number-of-requires c κs = search needs
+
+-- src/walks.rt:31:1
+returns-2 : tie.Need-returns-2
+returns-2 c = ?
+
+pub simple-spec : {M : Type 1} → statement M
+simple-spec =
+    tie.close (tie.spec is-met-requires after-simple-requires returns number-of-requires returns-2)
