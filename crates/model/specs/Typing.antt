@@ -35,7 +35,7 @@ module _ (t : Table) (size : ℕ) where
     pub nested : nesting t reading (blocks .body) ≤ 16
     pub inside : t .ret g < size
 
-  abbrev Says : Typing → Type 0
+  abbrev pub Says : Typing → Type 0
   Says passes = Typed t
   Says (Fault n p) = FirstFault t (typing t) numberOf n p
 

@@ -1,2 +1,4 @@
 pub mod Slots
 pub mod Statuses
+pub mod Turns
+pub mod Ready

@@ -2,3 +2,5 @@ pub mod Envs
 pub mod Changes
 pub mod Walks
 pub mod Bounds
+pub mod Check
+pub mod Checked

@@ -1,6 +1,10 @@
 // Document 01, "Typing, record by record": the check of a table.
 use model::Status;
+use model::Typing;
 use model::Walked;
+use reading::Answer;
+ghost use mathlib.Core.Path.{_≡_};
+ghost use Rattle.typing.specs.Check.{checkAt};
 
 mod environments;
 mod levels;
@@ -18,4 +22,28 @@ pub struct Env {
 pub struct Walk {
     pub to: Walked,
     pub env: Env,
+}
+
+// What the check of a table answers: how many functions it accepts in how many bytes; or the first fault with its place.
+pub enum Verdict {
+    Accepted(u8, usize),
+    Refused(u8, usize),
+}
+
+// Checks a table. Nothing is kept between two calls.
+pub fn check(t: &[u8]) -> Verdict
+    ensures { λ r. ⌜ r ≡ checkAt (now (t .entry)) ⌝ }
+{
+    let a = reading::read(t);
+    match a {
+        Answer::Refused(n, p) => Verdict::Refused(n, p),
+        Answer::Reads(z) => {
+            let functions = z.functions;
+            let w = walks::functions(t, z, functions);
+            match w {
+                Typing::Passes => Verdict::Accepted(functions, t.len()),
+                Typing::Fault(n, p) => Verdict::Refused(n, p),
+            }
+        }
+    }
 }

@@ -1,6 +1,21 @@
-use Prim.Native.Nat.{ℕ, _<_}
+use Prim.Native.Nat.{ℕ, suc, _<_, _≤_, _+_, _*_, _-_}
+use native.Mathlib.Omega.{arith}
+use mathlib.Core.Bool.{true}
+use mathlib.Core.Path.{_≡_, refl, sym, ap, subst, _∙_}
+use lib.Dec.{eqb}
+use lib.ListN.{length}
+use borrow.Author.Tests.{not-true, not-false}
+use borrow.Author.Needs.{needs}
 use borrow.Fn.Kinds.{In}
 use borrow.Fn.PlainCycle.{Measures, is, falls, and}
+use Rattle.model.specs.declared.Record.{Record}
+use Rattle.model.specs.Rules.{guarded}
+use Rattle.model.specs.Records.{Fits, lengthOf}
+use Rattle.model.specs.Levels.{Env as Environment}
+use Rattle.format.specs.Laws.{good}
+use Rattle.typing.specs.Walks.{simpleWalk, callWalk, joinWalk, backWalk, size, blockWalk}
+use Rattle.typing.specs.Envs.{viewEnv}
+use Rattle.typing.proofs.Turns.{seen, halts, within-packed, record-got, record-bad, record-is, if-private, if-deep, if-is, while-out, while-private, while-deep, while-is, shut-near, block-close, next-ok, turn-next, turn-shut, turn-fault}
 use Rattle.typing.proofs.walks.block.Reads as block
 use Rattle.typing.proofs.walks.block.Kinds as block-kinds
 use Rattle.typing.proofs.walks.+block+branch+one+repeat.Lts-block as block-lts
@@ -28,16 +43,16 @@ use Rattle.typing.proofs.walks.+block+branch+one+repeat.{statement}
 use Rattle.typing.proofs.walks.+block+branch+one+repeat.Tie.{close}
 
 abbrev μ-block : Measures 1 block-kinds.ps ℕ
-μ-block κs a = ?
+μ-block κs a = 3 * a .1 .1 .1 .0 + 2
 
 abbrev μ-branch : Measures 1 branch-kinds.ps ℕ
-μ-branch κs a = ?
+μ-branch κs a = 3 * a .1 .1 .1 .1 .0
 
 abbrev μ-one : Measures 1 one-kinds.ps ℕ
-μ-one κs a = ?
+μ-one κs a = 3 * a .1 .1 .1 .0 + 1
 
 abbrev μ-repeat : Measures 1 repeat-kinds.ps ℕ
-μ-repeat κs a = ?
+μ-repeat κs a = 3 * a .1 .1 .1 .1 .1 .0
 
 abbrev block-at : ℕ → In 1 block-kinds.ps
 block-at t = and 1 block-kinds.ps (is 1 block-kinds.ps μ-block t) block.Pre
@@ -64,10 +79,10 @@ abbrev repeat-below : ℕ → In 1 repeat-kinds.ps
 repeat-below t = and 1 repeat-kinds.ps (falls 1 repeat-kinds.ps _<_ μ-repeat t) repeat.Pre
 
 abbrev block-Inv-loop : block-lts.InvT-loop
-block-Inv-loop t z from depth at₀ e₀ at e = ?
+block-Inv-loop t z from depth at₀ e₀ at e = (k : ℕ) × (length t - at < k) × (at ≤ 100000) × (blockWalk z t depth (size z t) at₀ (viewEnv e₀) ≡ blockWalk z t depth k at (viewEnv e))
 
 abbrev block-μ-loop : block-lts.MeasureT-loop
-block-μ-loop t z from depth at₀ e₀ at e = ?
+block-μ-loop t z from depth at₀ e₀ at e = length t - at
 
 -- src/walks.rt:204:5
 block-loop-holds : (t : ℕ) → block-lts.Need-loop-holds (
@@ -78,7 +93,9 @@ block-loop-holds : (t : ℕ) → block-lts.Need-loop-holds (
   fault-reads.Asked,
   fault-reads.Learnt,
 ) (block-at t) block.Post block-Inv-loop block-μ-loop
-block-loop-holds t c = ?
+block-loop-holds t c =
+    let a = c .before .args in
+    (suc (length (a .t .now)), omega arith, c .before .pre .1 .near, refl)
 
 -- src/walks.rt:205:13
 block-one-requires : (t : ℕ) → block-lts.Need-one-requires (
@@ -89,7 +106,10 @@ block-one-requires : (t : ℕ) → block-lts.Need-one-requires (
   fault-reads.Asked,
   fault-reads.Learnt,
 ) (block-at t) block.Post block-Inv-loop block-μ-loop
-block-one-requires t c κs = ?
+block-one-requires t c κs =
+    let p = c .before .before .pre .1 in
+    let m = c .before .before .pre .0 in
+    (omega arith, record { small = p .small; short = p .short; near = c .loop .inv .2; shallow = p .shallow })
 
 -- src/walks.rt:209:26
 block-enum-known-to : (t : ℕ) → block-lts.Need-enum-known-to (
@@ -100,7 +120,7 @@ block-enum-known-to : (t : ℕ) → block-lts.Need-enum-known-to (
   fault-reads.Asked,
   fault-reads.Learnt,
 ) (block-at t) block.Post block-Inv-loop block-μ-loop
-block-enum-known-to t c = ?
+block-enum-known-to t c = search needs
 
 -- src/walks.rt:204:5
 block-loop-less : (t : ℕ) → block-lts.Need-loop-less (
@@ -111,7 +131,12 @@ block-loop-less : (t : ℕ) → block-lts.Need-loop-less (
   fault-reads.Asked,
   fault-reads.Learnt,
 ) (block-at t) block.Post block-Inv-loop block-μ-loop
-block-loop-less t c = ?
+block-loop-less t c =
+    let a = c .before .before .before .before .before .before .before .args in
+    let L = c .before .before .before .before .before .loop in
+    let e = sym (c .before .before .before .before .one .ensures) ∙ seen (c .before .before .before .before .one .result) (c .before .to .given .1) in
+    let o = next-ok (a .z) (a .t .now) (a .depth) (L .at) (viewEnv (L .e)) e in
+    omega (arith, o .0, o .1)
 
 -- src/walks.rt:204:5
 block-loop-again : (t : ℕ) → block-lts.Need-loop-again (
@@ -122,7 +147,14 @@ block-loop-again : (t : ℕ) → block-lts.Need-loop-again (
   fault-reads.Asked,
   fault-reads.Learnt,
 ) (block-at t) block.Post block-Inv-loop block-μ-loop
-block-loop-again t c = ?
+block-loop-again t c =
+    let a = c .before .before .before .before .before .before .before .args in
+    let L = c .before .before .before .before .before .loop in
+    let p = c .before .before .before .before .before .before .before .pre .1 in
+    let e = sym (c .before .before .before .before .one .ensures) ∙ seen (c .before .before .before .before .one .result) (c .before .to .given .1) in
+    let o = next-ok (a .z) (a .t .now) (a .depth) (L .at) (viewEnv (L .e)) e in
+    let n = turn-next (a .z) (a .t .now) (a .depth) (L .inv .0) (L .at) (viewEnv (L .e)) e (L .inv .1) in
+    (n .0, n .1, omega (arith, o .2, p .short, p .shallow), L .inv .3 ∙ n .2)
 
 -- src/walks.rt:213:26
 block-enum-known-to-2 : (t : ℕ) → block-lts.Need-enum-known-to-2 (
@@ -133,7 +165,7 @@ block-enum-known-to-2 : (t : ℕ) → block-lts.Need-enum-known-to-2 (
   fault-reads.Asked,
   fault-reads.Learnt,
 ) (block-at t) block.Post block-Inv-loop block-μ-loop
-block-enum-known-to-2 t c = ?
+block-enum-known-to-2 t c = search needs
 
 -- src/walks.rt:214:17
 block-shut-requires : (t : ℕ) → block-lts.Need-shut-requires (
@@ -144,7 +176,7 @@ block-shut-requires : (t : ℕ) → block-lts.Need-shut-requires (
   fault-reads.Asked,
   fault-reads.Learnt,
 ) (block-at t) block.Post block-Inv-loop block-μ-loop
-block-shut-requires t c κs = ?
+block-shut-requires t c κs = search needs
 
 -- src/walks.rt:214:17
 block-returns : (t : ℕ) → block-lts.Need-returns (
@@ -155,7 +187,11 @@ block-returns : (t : ℕ) → block-lts.Need-returns (
   fault-reads.Asked,
   fault-reads.Learnt,
 ) (block-at t) block.Post block-Inv-loop block-μ-loop
-block-returns t c = ?
+block-returns t c =
+    let a = c .before .before .before .before .before .before .before .before .args in
+    let L = c .before .before .before .before .before .before .loop in
+    let e = sym (c .before .before .before .before .before .one .ensures) ∙ seen (c .before .before .before .before .before .one .result) (c .before .before .to2 .given .1) in
+    c .shut .ensures ∙ sym (L .inv .3 ∙ turn-shut (a .z) (a .t .now) (a .depth) (L .inv .0) (L .at) (viewEnv (L .e)) e (L .inv .1))
 
 -- src/walks.rt:216:27
 block-enum-known-to-3 : (t : ℕ) → block-lts.Need-enum-known-to-3 (
@@ -166,7 +202,7 @@ block-enum-known-to-3 : (t : ℕ) → block-lts.Need-enum-known-to-3 (
   fault-reads.Asked,
   fault-reads.Learnt,
 ) (block-at t) block.Post block-Inv-loop block-μ-loop
-block-enum-known-to-3 t c = ?
+block-enum-known-to-3 t c = search needs
 
 -- src/walks.rt:217:17
 block-fault-requires : (t : ℕ) → block-lts.Need-fault-requires (
@@ -177,7 +213,7 @@ block-fault-requires : (t : ℕ) → block-lts.Need-fault-requires (
   fault-reads.Asked,
   fault-reads.Learnt,
 ) (block-at t) block.Post block-Inv-loop block-μ-loop
-block-fault-requires t c κs = ?
+block-fault-requires t c κs = search needs
 
 -- src/walks.rt:217:17
 block-returns-2 : (t : ℕ) → block-lts.Need-returns-2 (
@@ -188,7 +224,11 @@ block-returns-2 : (t : ℕ) → block-lts.Need-returns-2 (
   fault-reads.Asked,
   fault-reads.Learnt,
 ) (block-at t) block.Post block-Inv-loop block-μ-loop
-block-returns-2 t c = ?
+block-returns-2 t c =
+    let a = c .before .before .before .before .before .before .before .before .args in
+    let L = c .before .before .before .before .before .before .loop in
+    let e = sym (c .before .before .before .before .before .one .ensures) ∙ seen (c .before .before .before .before .before .one .result) (c .before .before .to3 .given .1) in
+    halts (c .fault .result) (c .fault .ensures) ∙ sym (L .inv .3 ∙ turn-fault (a .z) (a .t .now) (a .depth) (L .inv .0) (L .at) (viewEnv (L .e)) e (L .inv .1))
 
 -- src/walks.rt:73:9
 branch-is-public-requires : (t : ℕ) → branch-lts.Need-is-public-requires (
@@ -203,7 +243,7 @@ branch-is-public-requires : (t : ℕ) → branch-lts.Need-is-public-requires (
   joined-reads.Asked,
   joined-reads.Learnt,
 ) (branch-at t) branch.Post
-branch-is-public-requires t c κs = ?
+branch-is-public-requires t c κs = search needs
 
 -- src/walks.rt:74:9
 branch-fault-requires : (t : ℕ) → branch-lts.Need-fault-requires (
@@ -218,7 +258,7 @@ branch-fault-requires : (t : ℕ) → branch-lts.Need-fault-requires (
   joined-reads.Asked,
   joined-reads.Learnt,
 ) (branch-at t) branch.Post
-branch-fault-requires t c κs = ?
+branch-fault-requires t c κs = search needs
 
 -- src/walks.rt:74:9
 branch-returns : (t : ℕ) → branch-lts.Need-returns (
@@ -233,7 +273,10 @@ branch-returns : (t : ℕ) → branch-lts.Need-returns (
   joined-reads.Asked,
   joined-reads.Learnt,
 ) (branch-at t) branch.Post
-branch-returns t c = ?
+branch-returns t c =
+    let a = c .before .before .before .before .args in
+    let h = sym (c .before .before .is-public .ensures) ∙ not-true (c .before .before .is-public .result) (c .before .if1 .taken) in
+    halts (c .fault .result) (c .fault .ensures) ∙ if-private (a .z) (a .t .now) (a .depth) (a .at) (a .register) (viewEnv (a .e)) h
 
 -- src/walks.rt:77:9
 branch-fault-requires-2 : (t : ℕ) → branch-lts.Need-fault-requires-2 (
@@ -248,7 +291,7 @@ branch-fault-requires-2 : (t : ℕ) → branch-lts.Need-fault-requires-2 (
   joined-reads.Asked,
   joined-reads.Learnt,
 ) (branch-at t) branch.Post
-branch-fault-requires-2 t c κs = ?
+branch-fault-requires-2 t c κs = search needs
 
 -- src/walks.rt:77:9
 branch-returns-2 : (t : ℕ) → branch-lts.Need-returns-2 (
@@ -263,7 +306,10 @@ branch-returns-2 : (t : ℕ) → branch-lts.Need-returns-2 (
   joined-reads.Asked,
   joined-reads.Learnt,
 ) (branch-at t) branch.Post
-branch-returns-2 t c = ?
+branch-returns-2 t c =
+    let a = c .before .before .before .before .before .args in
+    let h = sym (c .before .before .before .is-public .ensures) ∙ not-false (c .before .before .before .is-public .result) (c .before .before .if1 .left) in
+    halts (c .fault2 .result) (c .fault2 .ensures) ∙ if-deep (a .z) (a .t .now) (a .depth) (a .at) (a .register) (viewEnv (a .e)) h (c .before .if2 .taken)
 
 -- src/walks.rt:79:9
 branch-guarded-env-requires : (t : ℕ) → branch-lts.Need-guarded-env-requires (
@@ -278,7 +324,7 @@ branch-guarded-env-requires : (t : ℕ) → branch-lts.Need-guarded-env-requires
   joined-reads.Asked,
   joined-reads.Learnt,
 ) (branch-at t) branch.Post
-branch-guarded-env-requires t c κs = ?
+branch-guarded-env-requires t c κs = search needs
 
 -- src/walks.rt:80:29
 branch-add-block : (t : ℕ) → branch-lts.Need-add-block (
@@ -293,7 +339,9 @@ branch-add-block : (t : ℕ) → branch-lts.Need-add-block (
   joined-reads.Asked,
   joined-reads.Learnt,
 ) (branch-at t) branch.Post
-branch-add-block t c = ?
+branch-add-block t c =
+    let p = c .before .before .before .before .before .pre .1 .0 .near in
+    search needs
 
 -- src/walks.rt:80:37
 branch-sub-block : (t : ℕ) → branch-lts.Need-sub-block (
@@ -308,7 +356,7 @@ branch-sub-block : (t : ℕ) → branch-lts.Need-sub-block (
   joined-reads.Asked,
   joined-reads.Learnt,
 ) (branch-at t) branch.Post
-branch-sub-block t c = ?
+branch-sub-block t c = search needs
 
 -- src/walks.rt:80:9
 branch-block-requires : (t : ℕ) → branch-lts.Need-block-requires (
@@ -323,7 +371,12 @@ branch-block-requires : (t : ℕ) → branch-lts.Need-block-requires (
   joined-reads.Asked,
   joined-reads.Learnt,
 ) (branch-at t) branch.Post
-branch-block-requires t c κs = ?
+branch-block-requires t c κs =
+    let n = c .before .if2 .left in
+    let m = c .before .before .before .before .before .pre .0 in
+    let p = c .before .before .before .before .before .pre .1 .0 in
+    let l = c .before .before .before .before .before .pre .1 .1 in
+    (omega arith, record { small = p .small; short = p .short; near = omega (arith, p .short); shallow = omega (arith, p .shallow) })
 
 -- src/walks.rt:84:22
 branch-enum-known-to1 : (t : ℕ) → branch-lts.Need-enum-known-to1 (
@@ -338,7 +391,7 @@ branch-enum-known-to1 : (t : ℕ) → branch-lts.Need-enum-known-to1 (
   joined-reads.Asked,
   joined-reads.Learnt,
 ) (branch-at t) branch.Post
-branch-enum-known-to1 t c = ?
+branch-enum-known-to1 t c = search needs
 
 -- src/walks.rt:84:28
 branch-fault-requires-3 : (t : ℕ) → branch-lts.Need-fault-requires-3 (
@@ -353,7 +406,7 @@ branch-fault-requires-3 : (t : ℕ) → branch-lts.Need-fault-requires-3 (
   joined-reads.Asked,
   joined-reads.Learnt,
 ) (branch-at t) branch.Post
-branch-fault-requires-3 t c κs = ?
+branch-fault-requires-3 t c κs = search needs
 
 -- src/walks.rt:85:23
 branch-enum-known-to1-2 : (t : ℕ) → branch-lts.Need-enum-known-to1-2 (
@@ -368,7 +421,7 @@ branch-enum-known-to1-2 : (t : ℕ) → branch-lts.Need-enum-known-to1-2 (
   joined-reads.Asked,
   joined-reads.Learnt,
 ) (branch-at t) branch.Post
-branch-enum-known-to1-2 t c = ?
+branch-enum-known-to1-2 t c = search needs
 
 -- src/walks.rt:85:32
 branch-fault-requires-4 : (t : ℕ) → branch-lts.Need-fault-requires-4 (
@@ -383,7 +436,7 @@ branch-fault-requires-4 : (t : ℕ) → branch-lts.Need-fault-requires-4 (
   joined-reads.Asked,
   joined-reads.Learnt,
 ) (branch-at t) branch.Post
-branch-fault-requires-4 t c κs = ?
+branch-fault-requires-4 t c κs = search needs
 
 -- src/walks.rt:86:22
 branch-enum-known-to1-3 : (t : ℕ) → branch-lts.Need-enum-known-to1-3 (
@@ -398,7 +451,7 @@ branch-enum-known-to1-3 : (t : ℕ) → branch-lts.Need-enum-known-to1-3 (
   joined-reads.Asked,
   joined-reads.Learnt,
 ) (branch-at t) branch.Post
-branch-enum-known-to1-3 t c = ?
+branch-enum-known-to1-3 t c = search needs
 
 -- src/walks.rt:87:17
 branch-guarded-env-requires-2 : (t : ℕ) → branch-lts.Need-guarded-env-requires-2 (
@@ -413,7 +466,7 @@ branch-guarded-env-requires-2 : (t : ℕ) → branch-lts.Need-guarded-env-requir
   joined-reads.Asked,
   joined-reads.Learnt,
 ) (branch-at t) branch.Post
-branch-guarded-env-requires-2 t c κs = ?
+branch-guarded-env-requires-2 t c κs = search needs
 
 -- src/walks.rt:88:38
 branch-add-block-2 : (t : ℕ) → branch-lts.Need-add-block-2 (
@@ -428,7 +481,13 @@ branch-add-block-2 : (t : ℕ) → branch-lts.Need-add-block-2 (
   joined-reads.Asked,
   joined-reads.Learnt,
 ) (branch-at t) branch.Post
-branch-add-block-2 t c = ?
+branch-add-block-2 t c =
+    let a = c .before .before .before .before .before .before .before .before .before .before .before .args in
+    let p = c .before .before .before .before .before .before .before .before .before .before .before .pre .1 .0 in
+    let b = sym (c .before .before .before .before .before .block .ensures) ∙ seen (c .before .before .before .before .before .block .result) (c .before .before .to13 .given .1) in
+    let s = shut-near (a .z) (a .t .now) (a .depth - 1) (size (a .z) (a .t .now)) (a .at + 4) (viewEnv (c .before .before .before .before .before .before .guarded-env .result)) b in
+    let u : c .before .before .to13 .given .0 .0 ≤ 200000 = omega (arith, s, p .short, p .near, p .shallow) in
+    search needs
 
 -- src/walks.rt:88:45
 branch-sub-block-2 : (t : ℕ) → branch-lts.Need-sub-block-2 (
@@ -443,7 +502,7 @@ branch-sub-block-2 : (t : ℕ) → branch-lts.Need-sub-block-2 (
   joined-reads.Asked,
   joined-reads.Learnt,
 ) (branch-at t) branch.Post
-branch-sub-block-2 t c = ?
+branch-sub-block-2 t c = search needs
 
 -- src/walks.rt:88:17
 branch-block-requires-2 : (t : ℕ) → branch-lts.Need-block-requires-2 (
@@ -458,7 +517,15 @@ branch-block-requires-2 : (t : ℕ) → branch-lts.Need-block-requires-2 (
   joined-reads.Asked,
   joined-reads.Learnt,
 ) (branch-at t) branch.Post
-branch-block-requires-2 t c κs = ?
+branch-block-requires-2 t c κs =
+    let a = c .before .before .before .before .before .before .before .before .before .before .before .args in
+    let n = c .before .before .before .before .before .before .before .if2 .left in
+    let m = c .before .before .before .before .before .before .before .before .before .before .before .pre .0 in
+    let p = c .before .before .before .before .before .before .before .before .before .before .before .pre .1 .0 in
+    let l = c .before .before .before .before .before .before .before .before .before .before .before .pre .1 .1 in
+    let b = sym (c .before .before .before .before .before .block .ensures) ∙ seen (c .before .before .before .before .before .block .result) (c .before .before .to13 .given .1) in
+    let s = shut-near (a .z) (a .t .now) (a .depth - 1) (size (a .z) (a .t .now)) (a .at + 4) (viewEnv (c .before .before .before .before .before .before .guarded-env .result)) b in
+    (omega arith, record { small = p .small; short = p .short; near = omega (arith, s, p .short, p .shallow); shallow = omega (arith, p .shallow) })
 
 -- src/walks.rt:89:13
 branch-joined-requires : (t : ℕ) → branch-lts.Need-joined-requires (
@@ -473,7 +540,13 @@ branch-joined-requires : (t : ℕ) → branch-lts.Need-joined-requires (
   joined-reads.Asked,
   joined-reads.Learnt,
 ) (branch-at t) branch.Post
-branch-joined-requires t c κs = ?
+branch-joined-requires t c κs =
+    let a = c .before .before .before .before .before .before .before .before .before .before .before .before .args in
+    let p = c .before .before .before .before .before .before .before .before .before .before .before .before .pre .1 .0 in
+    let l = c .before .before .before .before .before .before .before .before .before .before .before .before .pre .1 .1 in
+    let b = sym (c .before .before .before .before .before .before .block .ensures) ∙ seen (c .before .before .before .before .before .before .block .result) (c .before .before .before .to13 .given .1) in
+    let s = shut-near (a .z) (a .t .now) (a .depth - 1) (size (a .z) (a .t .now)) (a .at + 4) (viewEnv (c .before .before .before .before .before .before .before .guarded-env .result)) b in
+    block-close (a .z) (a .t .now) (a .depth - 1) (size (a .z) (a .t .now)) _ (viewEnv (c .before .guarded-env2 .result)) (c .block2 .result) (p .short) (omega (arith, s, p .short, p .shallow)) (omega (arith, p .shallow)) (c .block2 .ensures)
 
 -- src/walks.rt:69:1
 branch-returns-3 : (t : ℕ) → branch-lts.Need-returns-3 (
@@ -488,7 +561,11 @@ branch-returns-3 : (t : ℕ) → branch-lts.Need-returns-3 (
   joined-reads.Asked,
   joined-reads.Learnt,
 ) (branch-at t) branch.Post
-branch-returns-3 t c = ?
+branch-returns-3 t c =
+    let a = c .before .before .before .before .before .before .before .before .before .before .before .args in
+    let h = sym (c .before .before .before .before .before .before .before .before .before .is-public .ensures) ∙ not-false (c .before .before .before .before .before .before .before .before .before .is-public .result) (c .before .before .before .before .before .before .before .before .if1 .left) in
+    let b = ap (blockWalk (a .z) (a .t .now) (a .depth - 1) (size (a .z) (a .t .now)) (a .at + 4)) (sym (c .before .before .before .before .before .before .guarded-env .ensures)) ∙ sym (c .before .before .before .before .before .block .ensures) ∙ seen (c .before .before .before .before .before .block .result) (c .before .before .to1 .given .1) in
+    halts (c .fault3 .result) (c .fault3 .ensures) ∙ if-is (a .z) (a .t .now) (a .depth) (a .at) (a .register) (viewEnv (a .e)) h (c .before .before .before .before .before .before .before .if2 .left) b
 
 -- src/walks.rt:69:1
 branch-returns-4 : (t : ℕ) → branch-lts.Need-returns-4 (
@@ -503,7 +580,11 @@ branch-returns-4 : (t : ℕ) → branch-lts.Need-returns-4 (
   joined-reads.Asked,
   joined-reads.Learnt,
 ) (branch-at t) branch.Post
-branch-returns-4 t c = ?
+branch-returns-4 t c =
+    let a = c .before .before .before .before .before .before .before .before .before .before .before .args in
+    let h = sym (c .before .before .before .before .before .before .before .before .before .is-public .ensures) ∙ not-false (c .before .before .before .before .before .before .before .before .before .is-public .result) (c .before .before .before .before .before .before .before .before .if1 .left) in
+    let b = ap (blockWalk (a .z) (a .t .now) (a .depth - 1) (size (a .z) (a .t .now)) (a .at + 4)) (sym (c .before .before .before .before .before .before .guarded-env .ensures)) ∙ sym (c .before .before .before .before .before .block .ensures) ∙ seen (c .before .before .before .before .before .block .result) (c .before .before .to12 .given .1) in
+    halts (c .fault4 .result) (c .fault4 .ensures) ∙ if-is (a .z) (a .t .now) (a .depth) (a .at) (a .register) (viewEnv (a .e)) h (c .before .before .before .before .before .before .before .if2 .left) b
 
 -- src/walks.rt:69:1
 branch-returns-5 : (t : ℕ) → branch-lts.Need-returns-5 (
@@ -518,7 +599,12 @@ branch-returns-5 : (t : ℕ) → branch-lts.Need-returns-5 (
   joined-reads.Asked,
   joined-reads.Learnt,
 ) (branch-at t) branch.Post
-branch-returns-5 t c = ?
+branch-returns-5 t c =
+    let a = c .before .before .before .before .before .before .before .before .before .before .before .before .before .args in
+    let h = sym (c .before .before .before .before .before .before .before .before .before .before .before .is-public .ensures) ∙ not-false (c .before .before .before .before .before .before .before .before .before .before .before .is-public .result) (c .before .before .before .before .before .before .before .before .before .before .if1 .left) in
+    let b = ap (blockWalk (a .z) (a .t .now) (a .depth - 1) (size (a .z) (a .t .now)) (a .at + 4)) (sym (c .before .before .before .before .before .before .before .before .guarded-env .ensures)) ∙ sym (c .before .before .before .before .before .before .before .block .ensures) ∙ seen (c .before .before .before .before .before .before .before .block .result) (c .before .before .before .before .to13 .given .1) in
+    let d = c .before .block2 .ensures ∙ ap (blockWalk (a .z) (a .t .now) (a .depth - 1) (size (a .z) (a .t .now)) _) (c .before .before .guarded-env2 .ensures) in
+    c .joined .ensures ∙ ap (joinWalk (viewEnv (c .before .before .before .before .before .before .before .block .result .env))) d ∙ if-is (a .z) (a .t .now) (a .depth) (a .at) (a .register) (viewEnv (a .e)) h (c .before .before .before .before .before .before .before .before .before .if2 .left) b
 
 -- src/walks.rt:172:9
 one-decode-requires : (t : ℕ) → one-lts.Need-decode-requires (
@@ -535,7 +621,7 @@ one-decode-requires : (t : ℕ) → one-lts.Need-decode-requires (
   repeat-below t,
   repeat.Post,
 ) (one-at t) one.Post
-one-decode-requires t c κs = ?
+one-decode-requires t c κs = search needs
 
 -- src/walks.rt:174:22
 one-enum-known-d : (t : ℕ) → one-lts.Need-enum-known-d (
@@ -552,7 +638,7 @@ one-enum-known-d : (t : ℕ) → one-lts.Need-enum-known-d (
   repeat-below t,
   repeat.Post,
 ) (one-at t) one.Post
-one-enum-known-d t c = ?
+one-enum-known-d t c = search needs
 
 -- src/walks.rt:174:31
 one-shut-requires : (t : ℕ) → one-lts.Need-shut-requires (
@@ -569,7 +655,7 @@ one-shut-requires : (t : ℕ) → one-lts.Need-shut-requires (
   repeat-below t,
   repeat.Post,
 ) (one-at t) one.Post
-one-shut-requires t c κs = ?
+one-shut-requires t c κs = search needs
 
 -- src/walks.rt:175:22
 one-enum-known-d-2 : (t : ℕ) → one-lts.Need-enum-known-d-2 (
@@ -586,7 +672,7 @@ one-enum-known-d-2 : (t : ℕ) → one-lts.Need-enum-known-d-2 (
   repeat-below t,
   repeat.Post,
 ) (one-at t) one.Post
-one-enum-known-d-2 t c = ?
+one-enum-known-d-2 t c = search needs
 
 -- src/walks.rt:176:24
 one-enum-known-r : (t : ℕ) → one-lts.Need-enum-known-r (
@@ -603,7 +689,7 @@ one-enum-known-r : (t : ℕ) → one-lts.Need-enum-known-r (
   repeat-below t,
   repeat.Post,
 ) (one-at t) one.Post
-one-enum-known-r t c = ?
+one-enum-known-r t c = search needs
 
 -- src/walks.rt:176:30
 one-simple-requires : (t : ℕ) → one-lts.Need-simple-requires (
@@ -620,7 +706,11 @@ one-simple-requires : (t : ℕ) → one-lts.Need-simple-requires (
   repeat-below t,
   repeat.Post,
 ) (one-at t) one.Post
-one-simple-requires t c κs = ?
+one-simple-requires t c κs =
+    let a = c .before .before .before .before .before .before .before .before .args in
+    let e = sym (c .before .before .before .before .before .before .decode .ensures) ∙ c .before .before .before .before .d2 .given .1 in
+    let g = good (a .z) (a .t .now) (a .at) e in
+    (c .before .before .before .before .before .before .before .before .pre .1 .small, subst (Fits (a .z .registers) (a .z .arrays)) (c .before .r .given .1) (g .fits))
 
 -- src/walks.rt:177:28
 one-enum-known-r-2 : (t : ℕ) → one-lts.Need-enum-known-r-2 (
@@ -637,7 +727,7 @@ one-enum-known-r-2 : (t : ℕ) → one-lts.Need-enum-known-r-2 (
   repeat-below t,
   repeat.Post,
 ) (one-at t) one.Post
-one-enum-known-r-2 t c = ?
+one-enum-known-r-2 t c = search needs
 
 -- src/walks.rt:177:48
 one-call-requires : (t : ℕ) → one-lts.Need-call-requires (
@@ -654,7 +744,7 @@ one-call-requires : (t : ℕ) → one-lts.Need-call-requires (
   repeat-below t,
   repeat.Post,
 ) (one-at t) one.Post
-one-call-requires t c κs = ?
+one-call-requires t c κs = c .before .before .before .before .before .before .before .before .pre .1 .small
 
 -- src/walks.rt:178:26
 one-enum-known-r-3 : (t : ℕ) → one-lts.Need-enum-known-r-3 (
@@ -671,7 +761,7 @@ one-enum-known-r-3 : (t : ℕ) → one-lts.Need-enum-known-r-3 (
   repeat-below t,
   repeat.Post,
 ) (one-at t) one.Post
-one-enum-known-r-3 t c = ?
+one-enum-known-r-3 t c = search needs
 
 -- src/walks.rt:178:44
 one-branch-requires : (t : ℕ) → one-lts.Need-branch-requires (
@@ -688,7 +778,13 @@ one-branch-requires : (t : ℕ) → one-lts.Need-branch-requires (
   repeat-below t,
   repeat.Post,
 ) (one-at t) one.Post
-one-branch-requires t c κs = ?
+one-branch-requires t c κs =
+    let a = c .before .before .before .before .before .before .before .before .args in
+    let m = c .before .before .before .before .before .before .before .before .pre .0 in
+    let e = sym (c .before .before .before .before .before .before .decode .ensures) ∙ c .before .before .before .before .d2 .given .1 in
+    let g = good (a .z) (a .t .now) (a .at) e in
+    let l = ap lengthOf (c .before .r3 .given .1) in
+    (omega arith, (c .before .before .before .before .before .before .before .before .pre .1, omega (arith, l, g .next, g .whole)))
 
 -- src/walks.rt:179:28
 one-enum-known-r-4 : (t : ℕ) → one-lts.Need-enum-known-r-4 (
@@ -705,7 +801,7 @@ one-enum-known-r-4 : (t : ℕ) → one-lts.Need-enum-known-r-4 (
   repeat-below t,
   repeat.Post,
 ) (one-at t) one.Post
-one-enum-known-r-4 t c = ?
+one-enum-known-r-4 t c = search needs
 
 -- src/walks.rt:179:36
 one-shut-requires-2 : (t : ℕ) → one-lts.Need-shut-requires-2 (
@@ -722,7 +818,7 @@ one-shut-requires-2 : (t : ℕ) → one-lts.Need-shut-requires-2 (
   repeat-below t,
   repeat.Post,
 ) (one-at t) one.Post
-one-shut-requires-2 t c κs = ?
+one-shut-requires-2 t c κs = search needs
 
 -- src/walks.rt:180:30
 one-enum-told : (t : ℕ) → one-lts.Need-enum-told (
@@ -739,7 +835,7 @@ one-enum-told : (t : ℕ) → one-lts.Need-enum-told (
   repeat-below t,
   repeat.Post,
 ) (one-at t) one.Post
-one-enum-told t c = ?
+one-enum-told t c = search needs
 
 -- src/walks.rt:180:30
 one-shut-requires-3 : (t : ℕ) → one-lts.Need-shut-requires-3 (
@@ -756,7 +852,7 @@ one-shut-requires-3 : (t : ℕ) → one-lts.Need-shut-requires-3 (
   repeat-below t,
   repeat.Post,
 ) (one-at t) one.Post
-one-shut-requires-3 t c κs = ?
+one-shut-requires-3 t c κs = search needs
 
 -- src/walks.rt:181:29
 one-enum-known-r-5 : (t : ℕ) → one-lts.Need-enum-known-r-5 (
@@ -773,7 +869,7 @@ one-enum-known-r-5 : (t : ℕ) → one-lts.Need-enum-known-r-5 (
   repeat-below t,
   repeat.Post,
 ) (one-at t) one.Post
-one-enum-known-r-5 t c = ?
+one-enum-known-r-5 t c = search needs
 
 -- src/walks.rt:181:52
 one-repeat-requires : (t : ℕ) → one-lts.Need-repeat-requires (
@@ -790,7 +886,13 @@ one-repeat-requires : (t : ℕ) → one-lts.Need-repeat-requires (
   repeat-below t,
   repeat.Post,
 ) (one-at t) one.Post
-one-repeat-requires t c κs = ?
+one-repeat-requires t c κs =
+    let a = c .before .before .before .before .before .before .before .before .args in
+    let m = c .before .before .before .before .before .before .before .before .pre .0 in
+    let e = sym (c .before .before .before .before .before .before .decode .ensures) ∙ c .before .before .before .before .d2 .given .1 in
+    let g = good (a .z) (a .t .now) (a .at) e in
+    let l = ap lengthOf (c .before .r5 .given .1) in
+    (omega arith, (c .before .before .before .before .before .before .before .before .pre .1, omega (arith, l, g .next, g .whole)))
 
 -- src/walks.rt:182:32
 one-enum-known-r-6 : (t : ℕ) → one-lts.Need-enum-known-r-6 (
@@ -807,7 +909,7 @@ one-enum-known-r-6 : (t : ℕ) → one-lts.Need-enum-known-r-6 (
   repeat-below t,
   repeat.Post,
 ) (one-at t) one.Post
-one-enum-known-r-6 t c = ?
+one-enum-known-r-6 t c = search needs
 
 -- src/walks.rt:182:40
 one-shut-requires-4 : (t : ℕ) → one-lts.Need-shut-requires-4 (
@@ -824,7 +926,7 @@ one-shut-requires-4 : (t : ℕ) → one-lts.Need-shut-requires-4 (
   repeat-below t,
   repeat.Post,
 ) (one-at t) one.Post
-one-shut-requires-4 t c κs = ?
+one-shut-requires-4 t c κs = search needs
 
 -- src/walks.rt:183:31
 one-enum-told-2 : (t : ℕ) → one-lts.Need-enum-told-2 (
@@ -841,7 +943,7 @@ one-enum-told-2 : (t : ℕ) → one-lts.Need-enum-told-2 (
   repeat-below t,
   repeat.Post,
 ) (one-at t) one.Post
-one-enum-told-2 t c = ?
+one-enum-told-2 t c = search needs
 
 -- src/walks.rt:183:31
 one-shut-requires-5 : (t : ℕ) → one-lts.Need-shut-requires-5 (
@@ -858,7 +960,7 @@ one-shut-requires-5 : (t : ℕ) → one-lts.Need-shut-requires-5 (
   repeat-below t,
   repeat.Post,
 ) (one-at t) one.Post
-one-shut-requires-5 t c κs = ?
+one-shut-requires-5 t c κs = search needs
 
 -- src/walks.rt:168:1
 one-returns : (t : ℕ) → one-lts.Need-returns (
@@ -875,7 +977,10 @@ one-returns : (t : ℕ) → one-lts.Need-returns (
   repeat-below t,
   repeat.Post,
 ) (one-at t) one.Post
-one-returns t c = ?
+one-returns t c =
+    let a = c .before .before .before .before .before .before .args in
+    let r = record-bad (a .z) (a .t .now) (a .at) (sym (c .before .before .before .before .decode .ensures) ∙ c .before .before .d .given .1) in
+    c .shut .ensures ∙ record-is (a .z) (a .t .now) (a .depth) (a .at) (viewEnv (a .e)) r
 
 -- src/walks.rt:168:1
 one-returns-2 : (t : ℕ) → one-lts.Need-returns-2 (
@@ -892,7 +997,12 @@ one-returns-2 : (t : ℕ) → one-lts.Need-returns-2 (
   repeat-below t,
   repeat.Post,
 ) (one-at t) one.Post
-one-returns-2 t c = ?
+one-returns-2 t c =
+    let a = c .before .before .before .before .before .before .before .before .before .args in
+    let e = sym (c .before .before .before .before .before .before .before .decode .ensures) ∙ c .before .before .before .before .before .d2 .given .1 in
+    let r = record-got (a .z) (a .t .now) (a .at) e ∙ c .before .before .r .given .1 in
+    let n = good (a .z) (a .t .now) (a .at) e .next ∙ ap (λ (i : Record). a .at + lengthOf i) (c .before .before .r .given .1) in
+    c .simple .ensures ∙ ap (λ (n : ℕ). simpleWalk (a .z) (c .before .before .r .given .0 .0) (a .at) n (viewEnv (a .e))) n ∙ record-is (a .z) (a .t .now) (a .depth) (a .at) (viewEnv (a .e)) r
 
 -- src/walks.rt:168:1
 one-returns-3 : (t : ℕ) → one-lts.Need-returns-3 (
@@ -909,7 +1019,12 @@ one-returns-3 : (t : ℕ) → one-lts.Need-returns-3 (
   repeat-below t,
   repeat.Post,
 ) (one-at t) one.Post
-one-returns-3 t c = ?
+one-returns-3 t c =
+    let a = c .before .before .before .before .before .before .before .before .before .args in
+    let e = sym (c .before .before .before .before .before .before .before .decode .ensures) ∙ c .before .before .before .before .before .d2 .given .1 in
+    let r = record-got (a .z) (a .t .now) (a .at) e ∙ c .before .before .r2 .given .1 in
+    let n = good (a .z) (a .t .now) (a .at) e .next ∙ ap (λ (i : Record). a .at + lengthOf i) (c .before .before .r2 .given .1) in
+    c .call .ensures ∙ ap (λ (n : ℕ). callWalk (a .z) (a .t .now) (c .before .before .r2 .given .0 .0) (c .before .before .r2 .given .0 .1 .0) (a .at) n (viewEnv (a .e))) n ∙ record-is (a .z) (a .t .now) (a .depth) (a .at) (viewEnv (a .e)) r
 
 -- src/walks.rt:168:1
 one-returns-4 : (t : ℕ) → one-lts.Need-returns-4 (
@@ -926,7 +1041,11 @@ one-returns-4 : (t : ℕ) → one-lts.Need-returns-4 (
   repeat-below t,
   repeat.Post,
 ) (one-at t) one.Post
-one-returns-4 t c = ?
+one-returns-4 t c =
+    let a = c .before .before .before .before .before .before .before .before .before .args in
+    let e = sym (c .before .before .before .before .before .before .before .decode .ensures) ∙ c .before .before .before .before .before .d2 .given .1 in
+    let r = record-got (a .z) (a .t .now) (a .at) e ∙ c .before .before .r3 .given .1 in
+    c .branch .ensures ∙ record-is (a .z) (a .t .now) (a .depth) (a .at) (viewEnv (a .e)) r
 
 -- src/walks.rt:168:1
 one-returns-5 : (t : ℕ) → one-lts.Need-returns-5 (
@@ -943,7 +1062,11 @@ one-returns-5 : (t : ℕ) → one-lts.Need-returns-5 (
   repeat-below t,
   repeat.Post,
 ) (one-at t) one.Post
-one-returns-5 t c = ?
+one-returns-5 t c =
+    let a = c .before .before .before .before .before .before .before .before .before .args in
+    let e = sym (c .before .before .before .before .before .before .before .decode .ensures) ∙ c .before .before .before .before .before .d2 .given .1 in
+    let r = record-got (a .z) (a .t .now) (a .at) e ∙ c .before .before .r4 .given .1 in
+    c .shut2 .ensures ∙ record-is (a .z) (a .t .now) (a .depth) (a .at) (viewEnv (a .e)) r
 
 -- src/walks.rt:168:1
 one-returns-6 : (t : ℕ) → one-lts.Need-returns-6 (
@@ -960,7 +1083,11 @@ one-returns-6 : (t : ℕ) → one-lts.Need-returns-6 (
   repeat-below t,
   repeat.Post,
 ) (one-at t) one.Post
-one-returns-6 t c = ?
+one-returns-6 t c =
+    let a = c .before .before .before .before .before .before .before .before .args in
+    let e = sym (c .before .before .before .before .before .before .decode .ensures) ∙ c .before .before .before .before .d2 .given .1 in
+    let r = record-got (a .z) (a .t .now) (a .at) e ∙ c .before .enum-told .given .1 in
+    c .shut3 .ensures ∙ record-is (a .z) (a .t .now) (a .depth) (a .at) (viewEnv (a .e)) r
 
 -- src/walks.rt:168:1
 one-returns-7 : (t : ℕ) → one-lts.Need-returns-7 (
@@ -977,7 +1104,11 @@ one-returns-7 : (t : ℕ) → one-lts.Need-returns-7 (
   repeat-below t,
   repeat.Post,
 ) (one-at t) one.Post
-one-returns-7 t c = ?
+one-returns-7 t c =
+    let a = c .before .before .before .before .before .before .before .before .before .args in
+    let e = sym (c .before .before .before .before .before .before .before .decode .ensures) ∙ c .before .before .before .before .before .d2 .given .1 in
+    let r = record-got (a .z) (a .t .now) (a .at) e ∙ c .before .before .r5 .given .1 in
+    c .repeat .ensures ∙ record-is (a .z) (a .t .now) (a .depth) (a .at) (viewEnv (a .e)) r
 
 -- src/walks.rt:168:1
 one-returns-8 : (t : ℕ) → one-lts.Need-returns-8 (
@@ -994,7 +1125,11 @@ one-returns-8 : (t : ℕ) → one-lts.Need-returns-8 (
   repeat-below t,
   repeat.Post,
 ) (one-at t) one.Post
-one-returns-8 t c = ?
+one-returns-8 t c =
+    let a = c .before .before .before .before .before .before .before .before .before .args in
+    let e = sym (c .before .before .before .before .before .before .before .decode .ensures) ∙ c .before .before .before .before .before .d2 .given .1 in
+    let r = record-got (a .z) (a .t .now) (a .at) e ∙ c .before .before .r6 .given .1 in
+    c .shut4 .ensures ∙ record-is (a .z) (a .t .now) (a .depth) (a .at) (viewEnv (a .e)) r
 
 -- src/walks.rt:168:1
 one-returns-9 : (t : ℕ) → one-lts.Need-returns-9 (
@@ -1011,7 +1146,11 @@ one-returns-9 : (t : ℕ) → one-lts.Need-returns-9 (
   repeat-below t,
   repeat.Post,
 ) (one-at t) one.Post
-one-returns-9 t c = ?
+one-returns-9 t c =
+    let a = c .before .before .before .before .before .before .before .before .args in
+    let e = sym (c .before .before .before .before .before .before .decode .ensures) ∙ c .before .before .before .before .d2 .given .1 in
+    let r = record-got (a .z) (a .t .now) (a .at) e ∙ c .before .enum-told2 .given .1 in
+    c .shut5 .ensures ∙ record-is (a .z) (a .t .now) (a .depth) (a .at) (viewEnv (a .e)) r
 
 -- src/walks.rt:128:9
 repeat-unpack-requires : (t : ℕ) → repeat-lts.Need-unpack-requires (
@@ -1030,7 +1169,7 @@ repeat-unpack-requires : (t : ℕ) → repeat-lts.Need-unpack-requires (
   back-reads.Asked,
   back-reads.Learnt,
 ) (repeat-at t) repeat.Post
-repeat-unpack-requires t c κs = ?
+repeat-unpack-requires t c κs = search needs
 
 -- src/walks.rt:129:9
 repeat-env-within-requires : (t : ℕ) → repeat-lts.Need-env-within-requires (
@@ -1049,7 +1188,7 @@ repeat-env-within-requires : (t : ℕ) → repeat-lts.Need-env-within-requires (
   back-reads.Asked,
   back-reads.Learnt,
 ) (repeat-at t) repeat.Post
-repeat-env-within-requires t c κs = ?
+repeat-env-within-requires t c κs = c .before .before .pre .1 .0 .small
 
 -- src/walks.rt:130:9
 repeat-fault-requires : (t : ℕ) → repeat-lts.Need-fault-requires (
@@ -1068,7 +1207,7 @@ repeat-fault-requires : (t : ℕ) → repeat-lts.Need-fault-requires (
   back-reads.Asked,
   back-reads.Learnt,
 ) (repeat-at t) repeat.Post
-repeat-fault-requires t c κs = ?
+repeat-fault-requires t c κs = search needs
 
 -- src/walks.rt:130:9
 repeat-returns : (t : ℕ) → repeat-lts.Need-returns (
@@ -1087,7 +1226,10 @@ repeat-returns : (t : ℕ) → repeat-lts.Need-returns (
   back-reads.Asked,
   back-reads.Learnt,
 ) (repeat-at t) repeat.Post
-repeat-returns t c = ?
+repeat-returns t c =
+    let a = c .before .before .before .before .before .args in
+    let w = within-packed (a .z) (viewEnv (a .e)) (a .packed) (c .before .before .env-within .ensures) (c .before .before .before .unpack .ensures) (not-true (c .before .before .env-within .result) (c .before .if1 .taken)) in
+    halts (c .fault .result) (c .fault .ensures) ∙ while-out (a .z) (a .t .now) (a .depth) (a .at) (a .register) (a .packed) (viewEnv (a .e)) w
 
 -- src/walks.rt:132:9
 repeat-is-public-requires : (t : ℕ) → repeat-lts.Need-is-public-requires (
@@ -1106,7 +1248,7 @@ repeat-is-public-requires : (t : ℕ) → repeat-lts.Need-is-public-requires (
   back-reads.Asked,
   back-reads.Learnt,
 ) (repeat-at t) repeat.Post
-repeat-is-public-requires t c κs = ?
+repeat-is-public-requires t c κs = search needs
 
 -- src/walks.rt:133:9
 repeat-fault-requires-2 : (t : ℕ) → repeat-lts.Need-fault-requires-2 (
@@ -1125,7 +1267,7 @@ repeat-fault-requires-2 : (t : ℕ) → repeat-lts.Need-fault-requires-2 (
   back-reads.Asked,
   back-reads.Learnt,
 ) (repeat-at t) repeat.Post
-repeat-fault-requires-2 t c κs = ?
+repeat-fault-requires-2 t c κs = search needs
 
 -- src/walks.rt:133:9
 repeat-returns-2 : (t : ℕ) → repeat-lts.Need-returns-2 (
@@ -1144,7 +1286,11 @@ repeat-returns-2 : (t : ℕ) → repeat-lts.Need-returns-2 (
   back-reads.Asked,
   back-reads.Learnt,
 ) (repeat-at t) repeat.Post
-repeat-returns-2 t c = ?
+repeat-returns-2 t c =
+    let a = c .before .before .before .before .before .before .before .args in
+    let w = within-packed (a .z) (viewEnv (a .e)) (a .packed) (c .before .before .before .before .env-within .ensures) (c .before .before .before .before .before .unpack .ensures) (not-false (c .before .before .before .before .env-within .result) (c .before .before .before .if1 .left)) in
+    let h = ap (λ (E : Environment). eqb (E .regs (a .register)) 0) (sym (c .before .before .before .before .before .unpack .ensures)) ∙ sym (c .before .before .is-public .ensures) ∙ not-true (c .before .before .is-public .result) (c .before .if2 .taken) in
+    halts (c .fault2 .result) (c .fault2 .ensures) ∙ while-private (a .z) (a .t .now) (a .depth) (a .at) (a .register) (a .packed) (viewEnv (a .e)) w h
 
 -- src/walks.rt:136:9
 repeat-fault-requires-3 : (t : ℕ) → repeat-lts.Need-fault-requires-3 (
@@ -1163,7 +1309,7 @@ repeat-fault-requires-3 : (t : ℕ) → repeat-lts.Need-fault-requires-3 (
   back-reads.Asked,
   back-reads.Learnt,
 ) (repeat-at t) repeat.Post
-repeat-fault-requires-3 t c κs = ?
+repeat-fault-requires-3 t c κs = search needs
 
 -- src/walks.rt:136:9
 repeat-returns-3 : (t : ℕ) → repeat-lts.Need-returns-3 (
@@ -1182,7 +1328,11 @@ repeat-returns-3 : (t : ℕ) → repeat-lts.Need-returns-3 (
   back-reads.Asked,
   back-reads.Learnt,
 ) (repeat-at t) repeat.Post
-repeat-returns-3 t c = ?
+repeat-returns-3 t c =
+    let a = c .before .before .before .before .before .before .before .before .args in
+    let w = within-packed (a .z) (viewEnv (a .e)) (a .packed) (c .before .before .before .before .before .env-within .ensures) (c .before .before .before .before .before .before .unpack .ensures) (not-false (c .before .before .before .before .before .env-within .result) (c .before .before .before .before .if1 .left)) in
+    let h = ap (λ (E : Environment). eqb (E .regs (a .register)) 0) (sym (c .before .before .before .before .before .before .unpack .ensures)) ∙ sym (c .before .before .before .is-public .ensures) ∙ not-false (c .before .before .before .is-public .result) (c .before .before .if2 .left) in
+    halts (c .fault3 .result) (c .fault3 .ensures) ∙ while-deep (a .z) (a .t .now) (a .depth) (a .at) (a .register) (a .packed) (viewEnv (a .e)) w h (c .before .if3 .taken)
 
 -- src/walks.rt:138:9
 repeat-guarded-env-requires : (t : ℕ) → repeat-lts.Need-guarded-env-requires (
@@ -1201,7 +1351,7 @@ repeat-guarded-env-requires : (t : ℕ) → repeat-lts.Need-guarded-env-requires
   back-reads.Asked,
   back-reads.Learnt,
 ) (repeat-at t) repeat.Post
-repeat-guarded-env-requires t c κs = ?
+repeat-guarded-env-requires t c κs = search needs
 
 -- src/walks.rt:139:28
 repeat-add-block : (t : ℕ) → repeat-lts.Need-add-block (
@@ -1220,7 +1370,9 @@ repeat-add-block : (t : ℕ) → repeat-lts.Need-add-block (
   back-reads.Asked,
   back-reads.Learnt,
 ) (repeat-at t) repeat.Post
-repeat-add-block t c = ?
+repeat-add-block t c =
+    let p = c .before .before .before .before .before .before .before .before .pre .1 .0 .near in
+    search needs
 
 -- src/walks.rt:139:37
 repeat-sub-block : (t : ℕ) → repeat-lts.Need-sub-block (
@@ -1239,7 +1391,7 @@ repeat-sub-block : (t : ℕ) → repeat-lts.Need-sub-block (
   back-reads.Asked,
   back-reads.Learnt,
 ) (repeat-at t) repeat.Post
-repeat-sub-block t c = ?
+repeat-sub-block t c = search needs
 
 -- src/walks.rt:139:9
 repeat-block-requires : (t : ℕ) → repeat-lts.Need-block-requires (
@@ -1258,7 +1410,12 @@ repeat-block-requires : (t : ℕ) → repeat-lts.Need-block-requires (
   back-reads.Asked,
   back-reads.Learnt,
 ) (repeat-at t) repeat.Post
-repeat-block-requires t c κs = ?
+repeat-block-requires t c κs =
+    let n = c .before .if3 .left in
+    let m = c .before .before .before .before .before .before .before .before .pre .0 in
+    let p = c .before .before .before .before .before .before .before .before .pre .1 .0 in
+    let l = c .before .before .before .before .before .before .before .before .pre .1 .1 in
+    (omega arith, record { small = p .small; short = p .short; near = omega (arith, p .short); shallow = omega (arith, p .shallow) })
 
 -- src/walks.rt:140:5
 repeat-back-requires : (t : ℕ) → repeat-lts.Need-back-requires (
@@ -1277,7 +1434,11 @@ repeat-back-requires : (t : ℕ) → repeat-lts.Need-back-requires (
   back-reads.Asked,
   back-reads.Learnt,
 ) (repeat-at t) repeat.Post
-repeat-back-requires t c κs = ?
+repeat-back-requires t c κs =
+    let a = c .before .before .before .before .before .before .before .before .before .args in
+    let p = c .before .before .before .before .before .before .before .before .before .pre .1 .0 in
+    let l = c .before .before .before .before .before .before .before .before .before .pre .1 .1 in
+    (p .small, block-close (a .z) (a .t .now) (a .depth - 1) (size (a .z) (a .t .now)) (a .at + 11) (viewEnv (c .before .guarded-env .result)) (c .block .result) (p .short) (omega (arith, p .short)) (omega (arith, p .shallow)) (c .block .ensures))
 
 -- src/walks.rt:124:1
 repeat-returns-4 : (t : ℕ) → repeat-lts.Need-returns-4 (
@@ -1296,7 +1457,12 @@ repeat-returns-4 : (t : ℕ) → repeat-lts.Need-returns-4 (
   back-reads.Asked,
   back-reads.Learnt,
 ) (repeat-at t) repeat.Post
-repeat-returns-4 t c = ?
+repeat-returns-4 t c =
+    let a = c .before .before .before .before .before .before .before .before .before .before .args in
+    let w = within-packed (a .z) (viewEnv (a .e)) (a .packed) (c .before .before .before .before .before .before .before .env-within .ensures) (c .before .before .before .before .before .before .before .before .unpack .ensures) (not-false (c .before .before .before .before .before .before .before .env-within .result) (c .before .before .before .before .before .before .if1 .left)) in
+    let h = ap (λ (E : Environment). eqb (E .regs (a .register)) 0) (sym (c .before .before .before .before .before .before .before .before .unpack .ensures)) ∙ sym (c .before .before .before .before .before .is-public .ensures) ∙ not-false (c .before .before .before .before .before .is-public .result) (c .before .before .before .before .if2 .left) in
+    let d = c .before .block .ensures ∙ ap (blockWalk (a .z) (a .t .now) (a .depth - 1) (size (a .z) (a .t .now)) (a .at + 11)) (c .before .before .guarded-env .ensures ∙ ap (λ (E : Environment). guarded E (a .register) true) (c .before .before .before .before .before .before .before .before .unpack .ensures)) in
+    c .back .ensures ∙ ap (backWalk (a .z) (a .register) (a .packed)) d ∙ while-is (a .z) (a .t .now) (a .depth) (a .at) (a .register) (a .packed) (viewEnv (a .e)) w h (c .before .before .before .if3 .left)
 
 pub +block+branch+one+repeat-spec : {M : Type 1} → statement M
 +block+branch+one+repeat-spec = close μ-block μ-branch μ-one μ-repeat (λ t. block-lts.spec (

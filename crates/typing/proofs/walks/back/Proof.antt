@@ -1,4 +1,12 @@
+use mathlib.Core.Bool.{false}
+use mathlib.Core.Path.{sym, ap, subst, _∙_}
+use borrow.Author.Tests.{not-true, not-false}
 use borrow.Author.Needs.{needs}
+use Rattle.model.specs.Rules.{guarded}
+use Rattle.model.specs.Levels.{Env as Environment}
+use Rattle.typing.specs.Walks.{backWalk, Close}
+use Rattle.typing.specs.Envs.{viewEnv}
+use Rattle.typing.proofs.Turns.{seen, halts, within-packed, back-on, back-out}
 use Rattle.typing.proofs.walks.back.Statement.{statement}
 use Rattle.typing.proofs.walks.back.Tie as tie
 use Rattle.typing.proofs.walks.back.Reads as reads
@@ -42,7 +50,11 @@ fault-requires-3 c κs = search needs
 
 -- src/walks.rt:156:17
 returns : tie.Need-returns
-returns c = ?
+returns c =
+    let a = c .before .before .before .before .before .before .before .before .args in
+    let e = viewEnv (a .body .env) in
+    let w = within-packed (a .z) e (a .packed) (c .before .before .env-within .ensures) (c .before .before .before .unpack .ensures) (not-true (c .before .before .env-within .result) (c .before .if1 .taken)) in
+    halts (c .fault3 .result) (c .fault3 .ensures) ∙ back-out (a .z) (a .register) (a .packed) _ e w ∙ sym (ap (backWalk (a .z) (a .register) (a .packed)) (seen (a .body) (c .before .before .before .before .before .to3 .given .1)))
 
 -- src/walks.rt:158:17
 guarded-env-requires : tie.Need-guarded-env-requires
@@ -50,19 +62,30 @@ guarded-env-requires c κs = search needs
 
 -- src/walks.rt:160:34
 add-t16 : tie.Need-add-t16
-add-t16 c = ?
+add-t16 c =
+    let h = subst Close (c .before .before .before .before .before .to3 .given .1) (c .before .before .before .before .before .before .before .before .pre .1) in
+    search needs
 
 -- src/walks.rt:144:1
 returns-2 : tie.Need-returns-2
-returns-2 c = ?
+returns-2 c =
+    let a = c .before .before .before .before .before .args in
+    halts (c .fault .result) (c .fault .ensures) ∙ sym (ap (backWalk (a .z) (a .register) (a .packed)) (seen (a .body) (c .before .before .to .given .1)))
 
 -- src/walks.rt:144:1
 returns-3 : tie.Need-returns-3
-returns-3 c = ?
+returns-3 c =
+    let a = c .before .before .before .before .before .args in
+    halts (c .fault2 .result) (c .fault2 .ensures) ∙ sym (ap (backWalk (a .z) (a .register) (a .packed)) (seen (a .body) (c .before .before .to2 .given .1)))
 
 -- src/walks.rt:144:1
 returns-4 : tie.Need-returns-4
-returns-4 c = ?
+returns-4 c =
+    let a = c .before .before .before .before .before .before .before .before .args in
+    let e = viewEnv (a .body .env) in
+    let w = within-packed (a .z) e (a .packed) (c .before .before .env-within .ensures) (c .before .before .before .unpack .ensures) (not-false (c .before .before .env-within .result) (c .before .if1 .left)) in
+    let g = c .guarded-env .ensures ∙ ap (λ (E : Environment). guarded E (a .register) false) (c .before .before .before .unpack .ensures) in
+    back-on (a .z) (a .register) (a .packed) _ e w g ∙ sym (ap (backWalk (a .z) (a .register) (a .packed)) (seen (a .body) (c .before .before .before .before .before .to3 .given .1)))
 
 pub back-spec : {M : Type 1} → statement M
 back-spec =

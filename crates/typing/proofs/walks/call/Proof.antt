@@ -1,4 +1,11 @@
+use mathlib.Core.Path.{ap, _∙_}
 use borrow.Author.Needs.{needs}
+use Rattle.model.specs.Rules.{returned}
+use Rattle.model.specs.Packing.{envOf}
+use Rattle.model.specs.Levels.{Env as Environment}
+use Rattle.format.specs.Layout.{inOf}
+use Rattle.typing.specs.Envs.{viewEnv}
+use Rattle.typing.proofs.Turns.{within-packed, call-on, call-out}
 use Rattle.typing.proofs.walks.call.Statement.{statement}
 use Rattle.typing.proofs.walks.call.Tie as tie
 use Rattle.typing.proofs.walks.call.Reads as reads
@@ -35,11 +42,18 @@ returned-env-requires c κs = search needs
 
 -- src/walks.rt:57:9
 returns : tie.Need-returns
-returns c = ?
+returns c =
+    let a = c .before .before .before .before .before .before .before .before .args in
+    let w = within-packed (a .z) (viewEnv (a .e)) (inOf (a .z) (a .t .now) (a .function)) (c .before .before .before .before .env-within .ensures) (c .before .before .before .before .before .unpack .ensures ∙ ap envOf (c .before .before .before .before .before .before .in-of .ensures)) (c .before .before .before .if1 .taken) in
+    let o = c .returned-env .ensures ∙ ap (λ (E : Environment). returned E (a .mark) (viewEnv (a .e))) (c .before .unpack2 .ensures ∙ ap envOf (c .before .before .out-of .ensures)) in
+    call-on (a .z) (a .t .now) (a .function) (a .mark) (a .at) (a .next) (viewEnv (a .e)) w o
 
 -- src/walks.rt:49:1
 returns-2 : tie.Need-returns-2
-returns-2 c = ?
+returns-2 c =
+    let a = c .before .before .before .before .before .args in
+    let w = within-packed (a .z) (viewEnv (a .e)) (inOf (a .z) (a .t .now) (a .function)) (c .before .env-within .ensures) (c .before .before .unpack .ensures ∙ ap envOf (c .before .before .before .in-of .ensures)) (c .if1 .left) in
+    call-out (a .z) (a .t .now) (a .function) (a .mark) (a .at) (a .next) (viewEnv (a .e)) w
 
 pub call-spec : {M : Type 1} → statement M
 call-spec =

@@ -1,4 +1,10 @@
+use Prim.Native.Nat.{_+_}
+use mathlib.Core.Path.{sym, ap, subst, _∙_}
 use borrow.Author.Needs.{needs}
+use Rattle.model.specs.Walk.{Next as Onward}
+use Rattle.typing.specs.Walks.{joinWalk, Close}
+use Rattle.typing.specs.Envs.{viewEnv}
+use Rattle.typing.proofs.Turns.{seen, halts}
 use Rattle.typing.proofs.walks.joined.Statement.{statement}
 use Rattle.typing.proofs.walks.joined.Tie as tie
 use Rattle.typing.proofs.walks.joined.Reads as reads
@@ -32,19 +38,27 @@ join-envs-requires c κs = search needs
 
 -- src/walks.rt:116:34
 add-t11 : tie.Need-add-t11
-add-t11 c = ?
+add-t11 c =
+    let h = subst Close (c .before .before .to3 .given .1) (c .before .before .before .before .before .pre) in
+    search needs
 
 -- src/walks.rt:104:1
 returns : tie.Need-returns
-returns c = ?
+returns c =
+    let a = c .before .before .before .before .before .args in
+    halts (c .fault .result) (c .fault .ensures) ∙ sym (ap (joinWalk (viewEnv (a .env1))) (seen (a .second) (c .before .before .to .given .1)))
 
 -- src/walks.rt:104:1
 returns-2 : tie.Need-returns-2
-returns-2 c = ?
+returns-2 c =
+    let a = c .before .before .before .before .before .args in
+    halts (c .fault2 .result) (c .fault2 .ensures) ∙ sym (ap (joinWalk (viewEnv (a .env1))) (seen (a .second) (c .before .before .to2 .given .1)))
 
 -- src/walks.rt:104:1
 returns-3 : tie.Need-returns-3
-returns-3 c = ?
+returns-3 c =
+    let a = c .before .before .before .before .before .args in
+    ap (Onward (c .before .before .to3 .given .0 .0 + 1)) (c .join-envs .ensures) ∙ sym (ap (joinWalk (viewEnv (a .env1))) (seen (a .second) (c .before .before .to3 .given .1)))
 
 pub joined-spec : {M : Type 1} → statement M
 joined-spec =

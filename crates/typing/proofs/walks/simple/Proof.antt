@@ -1,4 +1,7 @@
+use mathlib.Core.Path.{sym, _∙_}
 use borrow.Author.Needs.{needs}
+use Rattle.typing.specs.Envs.{viewEnv}
+use Rattle.typing.proofs.Turns.{simple-on, simple-out}
 use Rattle.typing.proofs.walks.simple.Statement.{statement}
 use Rattle.typing.proofs.walks.simple.Tie as tie
 use Rattle.typing.proofs.walks.simple.Reads as reads
@@ -17,7 +20,9 @@ after-simple-requires c κs = search needs
 
 -- src/walks.rt:37:9
 returns : tie.Need-returns
-returns c = ?
+returns c =
+    let a = c .before .before .before .args in
+    simple-on (a .z) (a .s) (a .at) (a .next) (viewEnv (a .e)) (sym (c .before .before .is-met .ensures) ∙ c .before .if1 .taken) (c .after-simple .ensures)
 
 -- src/walks.rt:43:27
 number-of-requires : tie.Need-number-of-requires
@@ -25,7 +30,9 @@ number-of-requires c κs = search needs
 
 -- src/walks.rt:31:1
 returns-2 : tie.Need-returns-2
-returns-2 c = ?
+returns-2 c =
+    let a = c .before .before .before .args in
+    simple-out (a .z) (a .s) (a .at) (a .next) (viewEnv (a .e)) (sym (c .before .before .is-met .ensures) ∙ c .before .if1 .left) (c .number-of .ensures)
 
 pub simple-spec : {M : Type 1} → statement M
 simple-spec =

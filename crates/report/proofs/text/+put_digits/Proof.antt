@@ -1,0 +1,199 @@
+use Rattle.report.proofs.Written.{dig-none, dig-last, dig-more, sets-snoc}
+use Prim.Native.Nat.{ℕ, _<_, _≤_, _+_, _-_, _%_}
+use native.Mathlib.Omega.{arith}
+use borrow.Author.Needs.{needs}
+use mathlib.Core.Path.{_≡_, refl, sym, ap, subst, _∙_}
+use Rattle.report.specs.Text.{digitsIn}
+use lib.ListN.{length, set, length-append}
+use lib.Seq.{sets}
+use borrow.Fn.Kinds.{In}
+use borrow.Fn.PlainCycle.{Measures, is, falls, and}
+use Rattle.report.proofs.text.put_digits.Reads as put-digits
+use Rattle.report.proofs.text.put_digits.Kinds as put-digits-kinds
+use Rattle.report.proofs.text.+put_digits.Lts-put_digits as put-digits-lts
+use Rattle.report.proofs.text.put.Reads as put-reads
+use Rattle.report.proofs.text.+put_digits.{statement}
+use Rattle.report.proofs.text.+put_digits.Tie.{close}
+
+abbrev μ-put-digits : Measures 1 put-digits-kinds.ps ℕ
+μ-put-digits κs a = a .1 .1 .1 .0
+
+abbrev put-digits-at : ℕ → In 1 put-digits-kinds.ps
+put-digits-at t =
+    and 1 put-digits-kinds.ps (is 1 put-digits-kinds.ps μ-put-digits t) put-digits.Pre
+
+abbrev put-digits-below : ℕ → In 1 put-digits-kinds.ps
+put-digits-below t =
+    and 1 put-digits-kinds.ps (falls 1 put-digits-kinds.ps _<_ μ-put-digits t) put-digits.Pre
+
+-- src/lib.rt:23:9
+put-digits-returns : (t : ℕ) → put-digits-lts.Need-returns (
+  put-reads.Asked,
+  put-reads.Learnt,
+  put-digits-below t,
+  put-digits.Post,
+) (put-digits-at t) put-digits.Post
+put-digits-returns t c =
+    let a = c .before .before .args in
+    let z = dig-none (a .k) (a .n) (c .if1 .taken) in
+    rw z (omega arith, omega arith, refl)
+
+-- src/lib.rt:26:20
+put-digits-cast-put : (t : ℕ) → put-digits-lts.Need-cast-put (
+  put-reads.Asked,
+  put-reads.Learnt,
+  put-digits-below t,
+  put-digits.Post,
+) (put-digits-at t) put-digits.Post
+put-digits-cast-put t c = search needs
+
+-- src/lib.rt:26:20
+put-digits-add-put : (t : ℕ) → put-digits-lts.Need-add-put (
+  put-reads.Asked,
+  put-reads.Learnt,
+  put-digits-below t,
+  put-digits.Post,
+) (put-digits-at t) put-digits.Post
+put-digits-add-put t c = search needs
+
+-- src/lib.rt:26:9
+put-digits-put-requires : (t : ℕ) → put-digits-lts.Need-put-requires (
+  put-reads.Asked,
+  put-reads.Learnt,
+  put-digits-below t,
+  put-digits.Post,
+) (put-digits-at t) put-digits.Post
+put-digits-put-requires t c κs = search needs
+
+-- src/lib.rt:27:16
+put-digits-add-result : (t : ℕ) → put-digits-lts.Need-add-result (
+  put-reads.Asked,
+  put-reads.Learnt,
+  put-digits-below t,
+  put-digits.Post,
+) (put-digits-at t) put-digits.Post
+put-digits-add-result t c = search needs
+
+-- src/lib.rt:27:9
+put-digits-same-length : (t : ℕ) → put-digits-lts.Need-same-length (
+  put-reads.Asked,
+  put-reads.Learnt,
+  put-digits-below t,
+  put-digits.Post,
+) (put-digits-at t) put-digits.Post
+put-digits-same-length t c = search needs
+
+-- src/lib.rt:27:9
+put-digits-returns-2 : (t : ℕ) → put-digits-lts.Need-returns-2 (
+  put-reads.Asked,
+  put-reads.Learnt,
+  put-digits-below t,
+  put-digits.Post,
+) (put-digits-at t) put-digits.Post
+put-digits-returns-2 t c =
+    let a = c .before .before .before .before .before .before .before .args in
+    let z = dig-last (a .k) (a .n) (c .before .before .before .before .before .if1 .left) (c .before .before .before .before .if2 .taken) in
+    let m : a .n % 256 ≡ a .n = omega arith in
+    let k = c .before .before .before .before .before .if1 .left in
+    rw z (refl, omega arith, c .before .before .put .ensures ∙ rw m)
+
+-- src/lib.rt:29:40
+put-digits-sub-put-digits : (t : ℕ) → put-digits-lts.Need-sub-put-digits (
+  put-reads.Asked,
+  put-reads.Learnt,
+  put-digits-below t,
+  put-digits.Post,
+) (put-digits-at t) put-digits.Post
+put-digits-sub-put-digits t c = search needs
+
+-- src/lib.rt:29:9
+put-digits-put-digits-requires : (t : ℕ) → put-digits-lts.Need-put-digits-requires (
+  put-reads.Asked,
+  put-reads.Learnt,
+  put-digits-below t,
+  put-digits.Post,
+) (put-digits-at t) put-digits.Post
+put-digits-put-digits-requires t c κs = search needs
+
+-- src/lib.rt:30:16
+put-digits-cast-put-2 : (t : ℕ) → put-digits-lts.Need-cast-put-2 (
+  put-reads.Asked,
+  put-reads.Learnt,
+  put-digits-below t,
+  put-digits.Post,
+) (put-digits-at t) put-digits.Post
+put-digits-cast-put-2 t c = search needs
+
+-- src/lib.rt:30:16
+put-digits-add-put-2 : (t : ℕ) → put-digits-lts.Need-add-put-2 (
+  put-reads.Asked,
+  put-reads.Learnt,
+  put-digits-below t,
+  put-digits.Post,
+) (put-digits-at t) put-digits.Post
+put-digits-add-put-2 t c = search needs
+
+-- src/lib.rt:30:5
+put-digits-put-requires-2 : (t : ℕ) → put-digits-lts.Need-put-requires-2 (
+  put-reads.Asked,
+  put-reads.Learnt,
+  put-digits-below t,
+  put-digits.Post,
+) (put-digits-at t) put-digits.Post
+put-digits-put-requires-2 t c κs = search needs
+
+-- src/lib.rt:31:5
+put-digits-add-result-2 : (t : ℕ) → put-digits-lts.Need-add-result-2 (
+  put-reads.Asked,
+  put-reads.Learnt,
+  put-digits-below t,
+  put-digits.Post,
+) (put-digits-at t) put-digits.Post
+put-digits-add-result-2 t c = search needs
+
+-- src/lib.rt:18:1
+put-digits-same-length-2 : (t : ℕ) → put-digits-lts.Need-same-length-2 (
+  put-reads.Asked,
+  put-reads.Learnt,
+  put-digits-below t,
+  put-digits.Post,
+) (put-digits-at t) put-digits.Post
+put-digits-same-length-2 t c = search needs
+
+-- src/lib.rt:18:1
+put-digits-returns-3 : (t : ℕ) → put-digits-lts.Need-returns-3 (
+  put-reads.Asked,
+  put-reads.Learnt,
+  put-digits-below t,
+  put-digits.Post,
+) (put-digits-at t) put-digits.Post
+put-digits-returns-3 t c =
+    let a = c .before .before .before .before .before .before .before .before .before .before .before .args in
+    let z = dig-more (a .k) (a .n) (c .before .before .before .before .before .before .before .before .before .if1 .left) (c .before .before .before .before .before .before .before .before .if2 .left) in
+    let q = c .before .before .before .before .before .before .put-digits .ensures in
+    rw (z, length-append) (omega (arith, q .0, q .1), omega (arith, q .1, c .before .before .before .before .before .before .before .before .before .if1 .left), c .before .before .put2 .ensures ∙ rw (sets-snoc, q .2, q .0))
+
+pub +put-digits-spec : {M : Type 1} → statement M
++put-digits-spec = close μ-put-digits λ t. put-digits-lts.spec (
+  put-reads.Asked,
+  put-reads.Learnt,
+  put-digits-below t,
+  put-digits.Post,
+)
+    (put-digits-at t)
+    put-digits.Post
+    (put-digits-returns t)
+    (put-digits-cast-put t)
+    (put-digits-add-put t)
+    (put-digits-put-requires t)
+    (put-digits-add-result t)
+    (put-digits-same-length t)
+    (put-digits-returns-2 t)
+    (put-digits-sub-put-digits t)
+    (put-digits-put-digits-requires t)
+    (put-digits-cast-put-2 t)
+    (put-digits-add-put-2 t)
+    (put-digits-put-requires-2 t)
+    (put-digits-add-result-2 t)
+    (put-digits-same-length-2 t)
+    (put-digits-returns-3 t)

@@ -1,0 +1,155 @@
+use Prim.Native.Nat.{ℕ, _<_}
+use native.Mathlib.Omega.{arith}
+use mathlib.Core.Path.{sym, _∙_}
+use borrow.Author.Needs.{needs}
+use borrow.Fn.Kinds.{In}
+use borrow.Fn.PlainCycle.{Measures, is, falls, and}
+use Rattle.typing.proofs.Turns.{functions-none, functions-is}
+use Rattle.typing.proofs.walks.functions.Reads as functions
+use Rattle.typing.proofs.walks.functions.Kinds as functions-kinds
+use Rattle.typing.proofs.walks.+functions.Lts-functions as functions-lts
+use Rattle.typing.proofs.walks.function.Reads as function-reads
+use Rattle.typing.proofs.walks.+functions.{statement}
+use Rattle.typing.proofs.walks.+functions.Tie.{close}
+
+abbrev μ-functions : Measures 1 functions-kinds.ps ℕ
+μ-functions κs a = a .1 .1 .0
+
+abbrev functions-at : ℕ → In 1 functions-kinds.ps
+functions-at t = and 1 functions-kinds.ps (is 1 functions-kinds.ps μ-functions t) functions.Pre
+
+abbrev functions-below : ℕ → In 1 functions-kinds.ps
+functions-below t =
+    and 1 functions-kinds.ps (falls 1 functions-kinds.ps _<_ μ-functions t) functions.Pre
+
+-- src/walks.rt:252:9
+functions-returns : (t : ℕ) → functions-lts.Need-returns (
+  function-reads.Asked,
+  function-reads.Learnt,
+  functions-below t,
+  functions.Post,
+) (functions-at t) functions.Post
+functions-returns t c =
+    let a = c .before .before .args in
+    functions-none (a .z) (a .t .now) (a .n) (c .if1 .taken)
+
+-- src/walks.rt:254:13
+functions-sub-g : (t : ℕ) → functions-lts.Need-sub-g (
+  function-reads.Asked,
+  function-reads.Learnt,
+  functions-below t,
+  functions.Post,
+) (functions-at t) functions.Post
+functions-sub-g t c = search needs
+
+-- src/walks.rt:255:9
+functions-function-requires : (t : ℕ) → functions-lts.Need-function-requires (
+  function-reads.Asked,
+  function-reads.Learnt,
+  functions-below t,
+  functions.Post,
+) (functions-at t) functions.Post
+functions-function-requires t c κs = c .before .before .before .pre .1 .0
+
+-- src/walks.rt:257:22
+functions-enum-known-w : (t : ℕ) → functions-lts.Need-enum-known-w (
+  function-reads.Asked,
+  function-reads.Learnt,
+  functions-below t,
+  functions.Post,
+) (functions-at t) functions.Post
+functions-enum-known-w t c = search needs
+
+-- src/walks.rt:258:23
+functions-enum-known-w-2 : (t : ℕ) → functions-lts.Need-enum-known-w-2 (
+  function-reads.Asked,
+  function-reads.Learnt,
+  functions-below t,
+  functions.Post,
+) (functions-at t) functions.Post
+functions-enum-known-w-2 t c = search needs
+
+-- src/walks.rt:259:22
+functions-enum-known-w-3 : (t : ℕ) → functions-lts.Need-enum-known-w-3 (
+  function-reads.Asked,
+  function-reads.Learnt,
+  functions-below t,
+  functions.Post,
+) (functions-at t) functions.Post
+functions-enum-known-w-3 t c = search needs
+
+-- src/walks.rt:259:44
+functions-sub-functions : (t : ℕ) → functions-lts.Need-sub-functions (
+  function-reads.Asked,
+  function-reads.Learnt,
+  functions-below t,
+  functions.Post,
+) (functions-at t) functions.Post
+functions-sub-functions t c = search needs
+
+-- src/walks.rt:259:28
+functions-functions-requires : (t : ℕ) → functions-lts.Need-functions-requires (
+  function-reads.Asked,
+  function-reads.Learnt,
+  functions-below t,
+  functions.Post,
+) (functions-at t) functions.Post
+functions-functions-requires t c κs =
+    let n = c .before .before .before .before .before .if1 .left in
+    let m = c .before .before .before .before .before .before .before .pre .0 in
+    let p = c .before .before .before .before .before .before .before .pre .1 in
+    (omega arith, (p .0, omega (arith, p .1)))
+
+-- src/walks.rt:247:1
+functions-returns-2 : (t : ℕ) → functions-lts.Need-returns-2 (
+  function-reads.Asked,
+  function-reads.Learnt,
+  functions-below t,
+  functions.Post,
+) (functions-at t) functions.Post
+functions-returns-2 t c =
+    let a = c .before .before .before .before .before .before .before .args in
+    functions-is (a .z) (a .t .now) (a .n) (c .before .before .before .before .before .if1 .left) (sym (c .before .before .before .function .ensures) ∙ c .before .w .given .1)
+
+-- src/walks.rt:247:1
+functions-returns-3 : (t : ℕ) → functions-lts.Need-returns-3 (
+  function-reads.Asked,
+  function-reads.Learnt,
+  functions-below t,
+  functions.Post,
+) (functions-at t) functions.Post
+functions-returns-3 t c =
+    let a = c .before .before .before .before .before .before .before .args in
+    functions-is (a .z) (a .t .now) (a .n) (c .before .before .before .before .before .if1 .left) (sym (c .before .before .before .function .ensures) ∙ c .before .w2 .given .1)
+
+-- src/walks.rt:247:1
+functions-returns-4 : (t : ℕ) → functions-lts.Need-returns-4 (
+  function-reads.Asked,
+  function-reads.Learnt,
+  functions-below t,
+  functions.Post,
+) (functions-at t) functions.Post
+functions-returns-4 t c =
+    let a = c .before .before .before .before .before .before .before .before .args in
+    c .functions .ensures ∙ functions-is (a .z) (a .t .now) (a .n) (c .before .before .before .before .before .before .if1 .left) (sym (c .before .before .before .before .function .ensures) ∙ c .before .before .w3 .given .1)
+
+pub +functions-spec : {M : Type 1} → statement M
++functions-spec = close μ-functions λ t. functions-lts.spec (
+  function-reads.Asked,
+  function-reads.Learnt,
+  functions-below t,
+  functions.Post,
+)
+    (functions-at t)
+    functions.Post
+    (functions-returns t)
+    (functions-sub-g t)
+    (functions-function-requires t)
+    (functions-enum-known-w t)
+    (functions-enum-known-w-2 t)
+    (functions-enum-known-w-3 t)
+    (functions-sub-functions t)
+    (functions-functions-requires t)
+    (functions-returns-2 t)
+    (functions-returns-3 t)
+    (functions-returns-4 t)
