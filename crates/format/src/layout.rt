@@ -31,7 +31,7 @@ fn array_place(z: Sizes, a: u8) -> usize
 }
 
 // Where the signature of function f stands.
-pub fn signature_place(z: Sizes, f: u8) -> usize
+fn signature_place(z: Sizes, f: u8) -> usize
     ensures { λ r. ⌜ (r ≡ signaturePlace z f) × (r < 8192) ⌝ }
 {
     let arrays = z.arrays;

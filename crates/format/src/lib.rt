@@ -17,13 +17,11 @@ pub use head::signatures;
 pub use head::sizes;
 pub use layout::in_of;
 pub use layout::out_of;
-pub use layout::signature_place;
 pub use layout::sizes_of;
 pub use layout::start_of;
 pub use layout::words_at;
 pub use records::code_length;
 pub use records::decode;
-pub use records::packed_in;
 
 // A record with the place after it, or a fault (2, 3 or 4) with its place.
 pub enum Decoded {

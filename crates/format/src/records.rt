@@ -53,7 +53,7 @@ fn levels_in(n: u8, w: u32) -> bool
 }
 
 // A packed environment that a table of these sizes may hold.
-pub fn packed_in(z: Sizes, e: Packed) -> bool
+pub(crate) fn packed_in(z: Sizes, e: Packed) -> bool
     ensures { λ r. ⌜ r ≡ packedIn (z .registers) (z .arrays) e ⌝ }
 {
     if 2 <= e.status {

@@ -1,8 +1,5 @@
 // The words of document 01 that every crate shares: statuses, packed environments, records.
 // What they mean stands in specs/, in 01's order; the theorems over them too.
-ghost use mathlib.Core.Path.{_≡_};
-ghost use Prim.Native.Nat.{_<_};
-ghost use Rattle.model.specs.Records.{lengthOf, simpleLength};
 
 // The numbers of the sizes record.
 pub struct Sizes {
@@ -102,50 +99,4 @@ pub enum Walked {
 pub enum Typing {
     Passes,
     Fault(u8, usize),
-}
-
-// The bytes of a simple record, the kind byte counted.
-pub fn simple_length(s: Simple) -> usize
-    ensures { λ r. ⌜ r ≡ simpleLength s ⌝ }
-{
-    match s {
-        Simple::Const { dest, value } => 6,
-        Simple::Op {
-            dest,
-            op,
-            left,
-            right,
-        } => 5,
-        Simple::Select {
-            dest,
-            cond,
-            yes,
-            no,
-        } => 5,
-        Simple::Load { dest, array, index } => 4,
-        Simple::Store {
-            array,
-            index,
-            source,
-        } => 4,
-        Simple::Init => 1,
-        Simple::Update { register, sense } => 3,
-        Simple::Protect { dest, source } => 3,
-    }
-}
-
-// The bytes of a record of code, the kind byte counted.
-pub fn length_of(r: Record) -> usize
-    ensures { λ n. ⌜ n ≡ lengthOf r ⌝ }
-{
-    match r {
-        Record::Do(s) => simple_length(s),
-        Record::Call { function, mark } => 3,
-        Record::If { register, to } => 4,
-        Record::Else { to } => 3,
-        Record::Endif => 1,
-        Record::While { register, to, env } => 11,
-        Record::Endwhile { to } => 3,
-        Record::Return => 1,
-    }
 }

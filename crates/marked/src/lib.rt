@@ -1,0 +1,1 @@
+// The marked cases of document 01 stand in specs/.
