@@ -38,13 +38,13 @@ tableB = head ++ (21 ∷ 19 ∷ 0 ∷ 0 ∷ 1 ∷ 23 ∷ 0 ∷ 0 ∷ 19 ∷ 1 �
 
 -- the forms that the cases take
 pub data Case : Type 0 where
-  writes : (table output : List ℕ) → Case                         -- the check program's whole output
-  refuses : (table : List ℕ) (number place : ℕ) → Case            -- the check's answer
-  protects : (source dest : ℕ) → Case                             -- PROTECT under updated: the level of its source, of its dest afterwards
-  stores : (source named other named′ other′ : ℕ) → Case          -- STORE into array 0 beside array 1: levels before and after
+  writes : (table output : List ℕ) → Case  -- the check program's whole output
+  refuses : (table : List ℕ) (number place : ℕ) → Case  -- the check's answer
+  protects : (source dest : ℕ) → Case  -- PROTECT under updated: the level of its source, of its dest afterwards
+  stores : (source named other named′ other′ : ℕ) → Case  -- STORE into array 0 beside array 1: levels before and after
   joins : (one other result : Status) → Case
-  updates : (register : ℕ) (sense : Bool) (status : Status) (number : ℕ) → Case      -- UPDATE under a status: the fault
-  calls : (mark : Bool) (out result : Status) → Case              -- the status after a CALL
+  updates : (register : ℕ) (sense : Bool) (status : Status) (number : ℕ) → Case  -- UPDATE under a status: the fault
+  calls : (mark : Bool) (out result : Status) → Case  -- the status after a CALL
 
 -- two registers and two arrays: register 1 at level s, the arrays at a and b
 abbrev env : Status → ℕ → ℕ → ℕ → Env
@@ -69,16 +69,16 @@ accepted-1-functions-37-bytes =
 
 abbrev pub cases : List Case
 cases =
-    writes tableA refused-10-at-28 ∷                              -- 1
-    writes tableB accepted-1-functions-37-bytes ∷                 -- 2
-    refuses [] 2 0 ∷                                              -- 3
-    protects 1 0 ∷                                                -- 5
-    protects 2 2 ∷                                                -- 6
-    stores 1 0 0 1 1 ∷                                            -- 7
-    stores 0 0 0 0 0 ∷                                            -- 8
-    joins Updated (Outdated 0 true) Unknown ∷                     -- 9
-    updates 0 true (Outdated 0 false) 11 ∷                        -- 10
-    calls true Unknown Unknown ∷                                  -- 11
+    writes tableA refused-10-at-28 ∷  -- 1
+    writes tableB accepted-1-functions-37-bytes ∷  -- 2
+    refuses [] 2 0 ∷  -- 3
+    protects 1 0 ∷  -- 5
+    protects 2 2 ∷  -- 6
+    stores 1 0 0 1 1 ∷  -- 7
+    stores 0 0 0 0 0 ∷  -- 8
+    joins Updated (Outdated 0 true) Unknown ∷  -- 9
+    updates 0 true (Outdated 0 false) 11 ∷  -- 10
+    calls true Unknown Unknown ∷  -- 11
     []
 
 abbrev pub AllRight : List Case → Type 0
