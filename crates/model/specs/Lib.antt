@@ -11,6 +11,14 @@ pub mod Places
 pub mod Faults
 pub mod Walk
 pub mod Sites
+pub mod Memory
+pub mod Machine
 pub mod Passes
 pub mod Decide
 pub mod Typing
+pub mod Code
+pub mod Scans
+pub mod Stands
+pub mod Alike
+pub mod Secure
+pub mod Demand3

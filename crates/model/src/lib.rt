@@ -100,3 +100,18 @@ pub enum Typing {
     Passes,
     Fault(u8, usize),
 }
+
+// A directive: what the machine's surroundings choose for one step.
+pub enum Directive {
+    Plain,
+    Branch(bool),
+    Stray(u8, usize),
+    Back(usize),
+}
+
+// An observation: what a step shows. Way(true) is 01's branch 1, "the register is not zero".
+pub enum Observation {
+    Nothing,
+    Way(bool),
+    Address(u8, u32),
+}
