@@ -49,14 +49,14 @@ kindOf (While r e L) = 35
 kindOf (Endwhile w) = 36
 kindOf Return = 37
 
--- the place that a closing record names stands in the two bytes after its kind
+-- the place that a record names stands in its two bytes
 abbrev pub Names : List ℕ → ℕ → Record → Type 0
 Names t at (Do s) = Unit {0}
 Names t at (Call f m) = Unit {0}
-Names t at (If r e) = Unit {0}
+Names t at (If r e) = e ≡ word16 t (at + 2)
 Names t at (Else n) = n ≡ word16 t (at + 1)
 Names t at Endif = Unit {0}
-Names t at (While r e L) = Unit {0}
+Names t at (While r e L) = e ≡ word16 t (at + 2)
 Names t at (Endwhile w) = w ≡ word16 t (at + 1)
 Names t at Return = Unit {0}
 
@@ -91,13 +91,13 @@ rows-fit z t at =
                     (
                       (λ w. tt, refl, tt),
                       (
-                        (λ w. lt 1 n (w .0), refl, tt),
+                        (λ w. lt 1 n (w .0), refl, refl),
                         (
                           (λ w. tt, refl, refl),
                           (
                             (λ w. tt, refl, tt),
                             (
-                              (λ w. lt 1 n (w .0), refl, tt),
+                              (λ w. lt 1 n (w .0), refl, refl),
                               (
                                 (λ w. tt, refl, refl),
                                 (

@@ -16,6 +16,8 @@ use Rattle.model.specs.Levels.{Env, Covers, Within}
 use Rattle.model.specs.Table.{Table}
 use Rattle.model.specs.declared.Status.{Status}
 use Rattle.model.specs.declared.Status.the-variants.{Unknown, Updated, Outdated}
+use Rattle.model.specs.declared.Access.{Access}
+use Rattle.model.specs.declared.Access.the-variants.{Word, Bad}
 use Rattle.model.specs.declared.Directive.{Directive}
 use Rattle.model.specs.declared.Directive.the-variants.{Plain, Branch, Stray, Back}
 use Rattle.model.specs.declared.Observation.{Observation}
@@ -26,7 +28,7 @@ use Rattle.model.specs.declared.Record.{Record}
 use Rattle.model.specs.declared.Record.the-variants.{Do, Call, If, Else, Endif, While, Endwhile, Return}
 use Rattle.model.specs.Rules.{kill, settle, written, beside, Needs, after}
 use Rattle.model.specs.Monotone.{settle-ind}
-use Rattle.model.specs.Machine.{Data, wordsOf, address, Work, halt, did, Access, word, bad, reg, wordAt, holds, wrote, stored, plain, byAccess, inRange, strayed, access, work}
+use Rattle.model.specs.Machine.{Data, wordsOf, address, Work, halt, did, reg, wordAt, holds, wrote, stored, plain, byAccess, inRange, strayed, access, work}
 
 -- the highest level on which two runs agree
 abbrev pub top : Bool → ℕ
@@ -143,12 +145,12 @@ beside-source m l b v k = test (ltb b m) (λ x. pick x (max v (min 1 l)) v ≤ 0
 module _ (t : Table) where
   -- an access touches a word in range; on the right path, of the array asked for
   abbrev Touches : ℕ → Bool → Access → Type 0
-  Touches a mis (word b j) = (mis ≡ false → b ≡ a) × (j < wordsOf t b)
-  Touches a mis (bad k) = Unit {0}
+  Touches a mis (Word b j) = (mis ≡ false → b ≡ a) × (j < wordsOf t b)
+  Touches a mis (Bad k) = Unit {0}
 
   access-touches : (a i : ℕ) (mis : Bool) (dir : Directive) → Touches a mis (access t a i mis dir)
   unfolding access
-  access-touches a i mis dir = test (ltb i (wordsOf t a)) (λ b. Touches a mis (pick b (inRange t a i dir) (pick mis (strayed t dir) (bad 24)))) (λ e. near dir (ltb→lt i (wordsOf t a) (rw e tt))) (λ _. far mis dir)
+  access-touches a i mis dir = test (ltb i (wordsOf t a)) (λ b. Touches a mis (pick b (inRange t a i dir) (pick mis (strayed t dir) (Bad 24)))) (λ e. near dir (ltb→lt i (wordsOf t a) (rw e tt))) (λ _. far mis dir)
     where
       near : (dir : Directive) → i < wordsOf t a → Touches a mis (inRange t a i dir)
       near Plain l = (λ _. refl, l)
@@ -156,12 +158,12 @@ module _ (t : Table) where
       near (Stray b j) l = tt
       near (Back q) l = tt
 
-      far : (mis : Bool) (dir : Directive) → Touches a mis (pick mis (strayed t dir) (bad 24))
+      far : (mis : Bool) (dir : Directive) → Touches a mis (pick mis (strayed t dir) (Bad 24))
       far false dir = tt
       far true Plain = tt
       far true (Branch b) = tt
-      far true (Stray b j) = test (ltb b (t .arrays)) (λ z. Touches a true (pick (z && ltb j (wordsOf t b)) (word b j) (bad 25)))
-          (λ _. test (ltb j (wordsOf t b)) (λ z. Touches a true (pick z (word b j) (bad 25))) (λ e. (λ q. absurd (true≢false q), ltb→lt j (wordsOf t b) (rw e tt))) (λ _. tt)) (λ _. tt)
+      far true (Stray b j) = test (ltb b (t .arrays)) (λ z. Touches a true (pick (z && ltb j (wordsOf t b)) (Word b j) (Bad 25)))
+          (λ _. test (ltb j (wordsOf t b)) (λ z. Touches a true (pick z (Word b j) (Bad 25))) (λ e. (λ q. absurd (true≢false q), ltb→lt j (wordsOf t b) (rw e tt))) (λ _. tt)) (λ _. tt)
       far true (Back q) = tt
 
   module _ (E : Env) (mis : Bool) (x y : Data) (h : Alike t E mis x y) (dir : Directive) where
@@ -186,8 +188,8 @@ module _ (t : Table) where
 
         go : (z : Access) → Touches a mis z → Works t (after (t .arrays) (Load d a i) E) mis
             (byAccess z (λ b j. did (wrote x d (wordAt t x b j)) (Address a (reg y i)))) (byAccess z (λ b j. did (wrote y d (wordAt t y b j)) (Address a (reg y i))))
-        go (word b j) f = (refl, wrote-alike t E mis x y h d _ _ _ (value b j mis refl (f .0) (f .1)))
-        go (bad k) f = refl
+        go (Word b j) f = (refl, wrote-alike t E mis x y h d _ _ _ (value b j mis refl (f .0) (f .1)))
+        go (Bad k) f = refl
 
     store-works : (a i s : ℕ) → E .regs i ≡ 0 → Works t (after (t .arrays) (Store a i s) E) mis (work t (Store a i s) dir mis x) (work t (Store a i s) dir mis y)
     store-works a i s e = rw (public t E mis x y h i e) (go (access t a (reg y i) mis dir) (access-touches a (reg y i) mis dir))
@@ -204,14 +206,14 @@ module _ (t : Table) where
         kept : (b : ℕ) → E .arrays b ≤ level b
         kept b = same b a (λ z. E .arrays b ≤ pick z (max (E .arrays a) (E .regs s)) (beside (t .arrays) (E .regs s) b (E .arrays b))) (λ q. rw q (omega arith)) (λ _. beside-kept (t .arrays) (E .regs s) b (E .arrays b))
 
-        cell : (b j c k : ℕ) → Touches a mis (word b j) → k < wordsOf t c → level c ≤ top mis → wordAt t (stored t x b j (reg x s)) c k ≡ wordAt t (stored t y b j (reg y s)) c k
+        cell : (b j c k : ℕ) → Touches a mis (Word b j) → k < wordsOf t c → level c ≤ top mis → wordAt t (stored t x b j (reg x s)) c k ≡ wordAt t (stored t y b j (reg y s)) c k
         cell b j c k (f, g) m l = set-alike (x .mem) (y .mem) (address t b j) (reg x s) (reg y s) (address t c k) (h .long)
             (λ q. h .regs s (source b mis refl f (in-words t b j g) (rw (← (disjoint (t .words) c k b j m g q)) l))) (λ _. h .mem c k m (le-trans (kept c) l))
 
         go : (z : Access) → Touches a mis z → Works t (after (t .arrays) (Store a i s) E) mis
             (byAccess z (λ b j. did (stored t x b j (reg x s)) (Address a (reg y i)))) (byAccess z (λ b j. did (stored t y b j (reg y s)) (Address a (reg y i))))
-        go (word b j) f = (refl, record { flag₁ = h .flag₁; flag₂ = h .flag₂; wide₁ = h .wide₁; wide₂ = h .wide₂; long = same-length t (x .mem) (y .mem) (address t b j) _ _ (h .long); regs = h .regs; mem = λ c k. cell b j c k f })
-        go (bad k) f = refl
+        go (Word b j) f = (refl, record { flag₁ = h .flag₁; flag₂ = h .flag₂; wide₁ = h .wide₁; wide₂ = h .wide₂; long = same-length t (x .mem) (y .mem) (address t b j) _ _ (h .long); regs = h .regs; mem = λ c k. cell b j c k f })
+        go (Bad k) f = refl
 
     update-works : (r : ℕ) (s : Bool) → E .status ≡ Outdated r s → Works t (after (t .arrays) (Update r s) E) mis (work t (Update r s) dir mis x) (work t (Update r s) dir mis y)
     update-works r s e = plain-works t _ mis dir _ _ (

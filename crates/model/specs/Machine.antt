@@ -10,6 +10,8 @@ use Rattle.model.specs.Tests.{pick}
 use Rattle.model.specs.Memory.{offsetIn}
 use Rattle.model.specs.Records.{lengthOf, simpleLength}
 use Rattle.model.specs.Table.{Table, entry}
+use Rattle.model.specs.declared.Access.{Access}
+use Rattle.model.specs.declared.Access.the-variants.{Word, Bad}
 use Rattle.model.specs.declared.Directive.{Directive}
 use Rattle.model.specs.declared.Directive.the-variants.{Plain, Branch, Stray, Back}
 use Rattle.model.specs.declared.Observation.{Observation}
@@ -86,11 +88,6 @@ pub data Stepped : Type 0 where
   Stop : ℕ → Stepped
   Went : Ctl → Data → Observation → Stepped
 
--- the word that an access touches
-pub data Access : Type 0 where
-  word : (array index : ℕ) → Access
-  bad : ℕ → Access
-
 -- takes 60; any other directive is 22
 abbrev pub plain : Directive → Work → Work
 plain Plain w = w
@@ -103,8 +100,8 @@ onward (halt k) c = Stop k
 onward (did x o) c = Went c x o
 
 abbrev pub byAccess : Access → (ℕ → ℕ → Work) → Work
-byAccess (word a i) f = f a i
-byAccess (bad k) f = halt k
+byAccess (Word a i) f = f a i
+byAccess (Bad k) f = halt k
 
 -- the stack without its top, if the top is q
 abbrev pub pop : List ℕ → ℕ → Option (List ℕ)
@@ -114,21 +111,21 @@ pop (p ∷ ps) q = pick (eqb p q) (some ps) none
 module _ (t : Table) where
   -- in range it takes 60
   abbrev pub inRange : ℕ → ℕ → Directive → Access
-  inRange a i Plain = word a i
-  inRange a i (Branch b) = bad 22
-  inRange a i (Stray b j) = bad 22
-  inRange a i (Back q) = bad 22
+  inRange a i Plain = Word a i
+  inRange a i (Branch b) = Bad 22
+  inRange a i (Stray b j) = Bad 22
+  inRange a i (Back q) = Bad 22
 
   -- out of range, misspeculating: the word that 62 names
   abbrev pub strayed : Directive → Access
-  strayed Plain = bad 22
-  strayed (Branch b) = bad 22
-  strayed (Stray b j) = pick (ltb b (t .arrays) && ltb j (wordsOf t b)) (word b j) (bad 25)
-  strayed (Back q) = bad 22
+  strayed Plain = Bad 22
+  strayed (Branch b) = Bad 22
+  strayed (Stray b j) = pick (ltb b (t .arrays) && ltb j (wordsOf t b)) (Word b j) (Bad 25)
+  strayed (Back q) = Bad 22
 
   -- word i of array a is asked for; out of range on the right path is 24, before any directive is looked at
   unfoldable pub access : ℕ → ℕ → Bool → Directive → Access
-  access a i mis dir = pick (ltb i (wordsOf t a)) (inRange a i dir) (pick mis (strayed dir) (bad 24))
+  access a i mis dir = pick (ltb i (wordsOf t a)) (inRange a i dir) (pick mis (strayed dir) (Bad 24))
 
   abbrev pub work : Simple → Directive → Bool → Data → Work
   work (Const d v) dir mis x = plain dir (did (wrote x d v) Nothing)

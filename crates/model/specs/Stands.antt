@@ -88,7 +88,7 @@ module _ (t : Table) (reads : Reads t) where
   pub stack-bound : (c : Ctl) → Stands c → length (c .stack) < t .functions
   stack-bound c s = omega (arith, depth t reads reading (reads .blocks) (s .function) (c .stack) (s .here .here .0) (s .frames))
 
-  abbrev EndStands : Final → Type 0
+  abbrev pub EndStands : Final → Type 0
   EndStands (final k n c x os) = Stands c
 
   observed-stands : (o : Observation) (u : Final) → EndStands u → EndStands (observed o u)

@@ -115,3 +115,9 @@ pub enum Observation {
     Way(bool),
     Address(u8, u32),
 }
+
+// The word that a LOAD or a STORE touches, by array and index; or the stop instead.
+pub enum Access {
+    Word(u8, usize),
+    Bad(u8),
+}

@@ -2,3 +2,4 @@ pub mod Reading
 pub mod Steps
 pub mod Linked
 pub mod Limits
+pub mod Known

@@ -2,6 +2,7 @@
 -- go downward. What the reading of a record, of a block, and of the functions has found out, by the same recursion as theirs.
 use Prim.Native.Nat.{ℕ, zero, suc, _+_, _-_, _<_, _≤_, zero-le, suc-le-suc}
 use native.Mathlib.Omega.{arith}
+use native.Mathlib.Numerals.{add-one}
 use native.Mathlib.Decide.{ℕ-discrete}
 use mathlib.Core.Path.{_≡_, refl, sym, ap, subst, _∙_}
 use mathlib.Core.List.{List, [], _∷_}
@@ -15,6 +16,7 @@ use Rattle.model.specs.Table.{Table}
 use Rattle.model.specs.Blocks.{Types, done, one, branch, loop, TypesFunction}
 use Rattle.model.specs.Rules.{reading, Lower}
 use Rattle.model.specs.Places.{nesting}
+use Rattle.model.specs.Scans.{edge}
 use Rattle.model.specs.Typing.{Read}
 use Rattle.model.specs.declared.Sizes.{Sizes}
 use Rattle.model.specs.declared.Packed.{Packed}
@@ -281,3 +283,11 @@ module _ (t : List ℕ) where
         nested = body .1;
         inside = rw at-return (omega (arith, c .whole));
       }
+
+  -- functions touch: each begins one byte after the RETURN of the one before, and the last RETURN ends the table
+  pub touches : (y : Sizes) → readAt t ≡ Reads y → (g : ℕ) → g < zs .functions → edge (tableOf t) (length t) (suc g) ≡ returnOf zs t g + 1
+  unfolding returnOf
+  touches y e g l =
+      let (p, b, q) = subst AnswerRead e answer-read .1 g l in
+      let r : returnOf zs t g + 1 ≡ endOf g = omega (arith, q) in
+      sym (r ∙ rw (add-one g))

@@ -1,0 +1,5 @@
+pub mod Words
+pub mod Planning
+pub mod Going
+pub mod Stepping
+pub mod Answers

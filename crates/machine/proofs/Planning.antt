@@ -1,0 +1,339 @@
+-- Laws of a step's plan, as its functions use them: a plan by its stop, the directive it takes, the stack, the look for a CALL.
+use Prim.Native.Nat.{ℕ, zero, suc, _+_, _-_, _*_, _%_, _^_, _<_, _≤_}
+use native.Mathlib.Omega.{arith}
+use native.Mathlib.Numerals.{sub-one}
+use native.Mathlib.Nat.{le-of-lt, lt-of-le-of-lt, mul-le-mul-left, mul-lt-mul-of-pos-right}
+use native.Mathlib.Decide.{decLt}
+use mathlib.Core.Path.{_≡_, refl, sym, ap, subst, _∙_}
+use mathlib.Core.Bool.{Bool, true, false, not, _&&_, Bool·beq, true≢false}
+use mathlib.Core.Option.{Option, none, some}
+use mathlib.Core.List.{List, [], _∷_}
+use lib.Bits.{bitAnd, bitOr, bitXor}
+use lib.Dec.{eqb, ltb}
+use lib.ListN.{length, getD, set, List·getD-eq-default}
+use lib.Pow.{pow-pos}
+use lib.Seq.{getD-set-same, getD-set-other}
+use borrow.Author.Tests.{eq-eqb, ne-eqb, lt-ltb, le-ltb, le-leb, lt-leb, ltb-true}
+use Rattle.model.specs.Tests.{pick, pick-ind}
+use Rattle.model.specs.Table.{Table}
+use Rattle.model.specs.Records.{lengthOf, length-pos}
+use Rattle.model.specs.Sites.{scan, homeOf, markOf as callMark}
+use Rattle.model.specs.Machine.{Ctl, Data, reg, wordsOf, wordAt, wrote, stored, flagged, operate, Work, halt, did, Stop, Went, plain, onward, byAccess, pop, inRange, strayed, access, work, wrong, right, stepOf, step}
+use Rattle.model.specs.declared.Access.{Access}
+use Rattle.model.specs.declared.Access.the-variants.{Word as At, Bad}
+use Rattle.model.specs.declared.Directive.{Directive}
+use Rattle.model.specs.declared.Directive.the-variants.{Plain, Branch, Stray, Back}
+use Rattle.model.specs.declared.Observation.{Observation}
+use Rattle.model.specs.declared.Observation.the-variants.{Nothing, Address}
+use Rattle.model.specs.declared.Sizes.{Sizes}
+use Rattle.model.specs.declared.Simple.the-variants.{Load, Store}
+use Rattle.model.specs.declared.Record.{Record}
+use Rattle.model.specs.declared.Record.the-variants.{Return}
+use Rattle.format.specs.Format.{byte, word16, decodeAt}
+use Rattle.format.specs.Layout.{recordFrom, recordOf, tableWith}
+use Rattle.format.specs.declared.Decoded.{Decoded}
+use Rattle.format.specs.declared.Decoded.the-variants.{Got, Bad as Unread}
+use Rattle.machine.specs.States.{stackOf, ctlOf, applied, viewPlan, Lands, isPlain, tops, below, leaves}
+use Rattle.machine.specs.declared.State.{State}
+use Rattle.machine.specs.declared.Effect.{Effect}
+use Rattle.machine.specs.declared.Plan.{Plan}
+use Rattle.machine.proofs.Words.{words-first, words-out}
+
+pub picked : {A : Type 0} (b : Bool) (x y : A) → b ≡ true → pick b x y ≡ x
+picked b x y e = ap (λ (c : Bool). pick c x y) e
+
+pub passed : {A : Type 0} (b : Bool) (x y : A) → b ≡ false → pick b x y ≡ y
+passed b x y e = ap (λ (c : Bool). pick c x y) e
+
+-- ---- a plan by its stop
+-- what `go` says of a plan
+abbrev pub Goes : Plan → State → Effect → Observation → Type 0
+Goes p s e o = (p .stop ≡ 0) × (p .state ≡ s) × (p .effect ≡ e) × (p .seen ≡ o)
+
+pub goes : (t : Table) (p : Plan) (x : Data) {s : State} {e : Effect} {o : Observation} {c : Ctl} {m : Bool} → Goes p s e o → (ctlOf s ≡ c) × (s .masked ≡ m)
+    → viewPlan t p x ≡ Went c (flagged (applied t e x) m) o
+goes t p x {s} {e} {o} {c} {m} g k =
+    picked (eqb (p .stop) 0) (Went (ctlOf (p .state)) (flagged (applied t (p .effect) x) (p .state .masked)) (p .seen)) (Stop (p .stop)) (eq-eqb (p .stop) 0 (g .0))
+    ∙ ap (λ (u : State). Went (ctlOf u) (flagged (applied t (p .effect) x) (u .masked)) (p .seen)) (g .1)
+    ∙ ap (λ (u : Effect). Went (ctlOf s) (flagged (applied t u x) (s .masked)) (p .seen)) (g .2)
+    ∙ ap (λ (u : Observation). Went (ctlOf s) (flagged (applied t e x) (s .masked)) u) (g .3)
+    ∙ ap (λ (u : Ctl). Went u (flagged (applied t e x) (s .masked)) o) (k .0)
+    ∙ ap (λ (u : Bool). Went c (flagged (applied t e x) u) o) (k .1)
+
+pub stops : (t : Table) (p : Plan) (x : Data) {k : ℕ} → p .stop ≡ k → eqb k 0 ≡ false → viewPlan t p x ≡ Stop k
+stops t p x {k} e n =
+    passed (eqb (p .stop) 0) (Went (ctlOf (p .state)) (flagged (applied t (p .effect) x) (p .state .masked)) (p .seen)) (Stop (p .stop)) (ap (λ (i : ℕ). eqb i 0) e ∙ n)
+    ∙ ap Stop e
+
+-- an effect that lands
+pub lands : (t : Table) (p : Plan) {e : Effect} → p .effect ≡ e → Lands t e → Lands t (p .effect)
+lands t p q l = subst (Lands t) (sym q) l
+
+-- ---- directives
+pub plain-yes : (d : Directive) (w : Work) → isPlain d ≡ true → plain d w ≡ w
+plain-yes Plain w h = refl
+plain-yes (Branch b) w h = absurd (true≢false (sym h))
+plain-yes (Stray a i) w h = absurd (true≢false (sym h))
+plain-yes (Back q) w h = absurd (true≢false (sym h))
+
+pub plain-no : (d : Directive) (w : Work) → isPlain d ≡ false → plain d w ≡ halt 22
+plain-no Plain w h = absurd (true≢false h)
+plain-no (Branch b) w h = refl
+plain-no (Stray a i) w h = refl
+plain-no (Back q) w h = refl
+
+pub goes-plain : (t : Table) (p : Plan) (x : Data) (d : Directive) {s : State} {e : Effect} {c : Ctl} {m : Bool} → isPlain d ≡ true → Goes p s e Nothing → (ctlOf s ≡ c) × (s .masked ≡ m)
+    → viewPlan t p x ≡ onward (plain d (did (flagged (applied t e x) m) Nothing)) c
+goes-plain t p x d {s} {e} {c} {m} h g k = goes t p x g k ∙ sym (ap (λ (w : Work). onward w c) (plain-yes d (did (flagged (applied t e x) m) Nothing) h))
+
+pub stops-plain : (t : Table) (p : Plan) (x : Data) (d : Directive) (w : Work) (c : Ctl) → isPlain d ≡ false → p .stop ≡ 22 → viewPlan t p x ≡ onward (plain d w) c
+stops-plain t p x d w c h e = stops t p x e refl ∙ sym (ap (λ (v : Work). onward v c) (plain-no d w h))
+
+-- ---- values
+pub not-zero : (b : Bool) → not b ≡ pick b false true
+not-zero true = refl
+not-zero false = refl
+
+pub holds-yes : (b c : Bool) → c ≡ true → b ≡ Bool·beq b c
+holds-yes true c h = rw h refl
+holds-yes false c h = rw h refl
+
+pub holds-no : (b c : Bool) → c ≡ false → not b ≡ Bool·beq b c
+holds-no true c h = rw h refl
+holds-no false c h = rw h refl
+
+-- two words have a product of at most 64 bits
+pub product : {a b : ℕ} → a < 2 ^ 32 → b < 2 ^ 32 → a * b < 2 ^ 64
+product {a} {b} ha hb = lt-of-le-of-lt (mul-le-mul-left a (le-of-lt hb)) (mul-lt-mul-of-pos-right ha (pow-pos 32))
+
+pub difference : (a b r : ℕ) → a < 4294967296 → b < 4294967296 → r < 4294967296 → (r + b) % 4294967296 ≡ a → r ≡ (a + (4294967296 - b)) % 4294967296
+difference a b r ha hb hr e = omega arith
+
+pub operate-0 : (op a b : ℕ) → op ≡ 0 → operate op a b ≡ (a + b) % 4294967296
+unfolding operate
+operate-0 op a b e = rw e refl
+
+pub operate-1 : (op a b : ℕ) → op ≡ 1 → operate op a b ≡ (a + (4294967296 - b)) % 4294967296
+unfolding operate
+operate-1 op a b e = rw e refl
+
+pub operate-2 : (op a b : ℕ) → op ≡ 2 → operate op a b ≡ a * b % 4294967296
+unfolding operate
+operate-2 op a b e = rw e refl
+
+pub operate-3 : (op a b : ℕ) → op ≡ 3 → operate op a b ≡ bitXor a b
+unfolding operate
+operate-3 op a b e = rw e refl
+
+pub operate-4 : (op a b : ℕ) → op ≡ 4 → operate op a b ≡ bitAnd a b
+unfolding operate
+operate-4 op a b e = rw e refl
+
+pub operate-5 : (op a b : ℕ) → op ≡ 5 → operate op a b ≡ bitOr a b
+unfolding operate
+operate-5 op a b e = rw e refl
+
+pub operate-6 : (op a b : ℕ) → op ≡ 6 → operate op a b ≡ pick (ltb a b) 1 0
+unfolding operate
+operate-6 op a b e = rw e refl
+
+pub operate-7 : (op a b : ℕ) → (op ≡ 0 → ⊥) → (op ≡ 1 → ⊥) → (op ≡ 2 → ⊥) → (op ≡ 3 → ⊥) → (op ≡ 4 → ⊥) → (op ≡ 5 → ⊥) → (op ≡ 6 → ⊥) → operate op a b ≡ pick (eqb a b) 1 0
+unfolding operate
+operate-7 op a b n0 n1 n2 n3 n4 n5 n6 = rw (ne-eqb op 0 n0, ne-eqb op 1 n1, ne-eqb op 2 n2, ne-eqb op 3 n3, ne-eqb op 4 n4, ne-eqb op 5 n5, ne-eqb op 6 n6) refl
+
+-- ---- accesses
+module _ (t : Table) where
+  -- a word that is touched lies in its array; a stop is not 0
+  abbrev pub Touches : Access → Type 0
+  Touches (At a i) = i < wordsOf t a
+  Touches (Bad n) = eqb n 0 ≡ false
+
+  in-yes : (a i : ℕ) (d : Directive) → isPlain d ≡ true → inRange t a i d ≡ At a i
+  in-yes a i Plain h = refl
+  in-yes a i (Branch b) h = absurd (true≢false (sym h))
+  in-yes a i (Stray b j) h = absurd (true≢false (sym h))
+  in-yes a i (Back q) h = absurd (true≢false (sym h))
+
+  in-no : (a i : ℕ) (d : Directive) → isPlain d ≡ false → inRange t a i d ≡ Bad 22
+  in-no a i Plain h = absurd (true≢false h)
+  in-no a i (Branch b) h = refl
+  in-no a i (Stray b j) h = refl
+  in-no a i (Back q) h = refl
+
+  pub access-in : (a i : ℕ) (mis : Bool) (d : Directive) → i < wordsOf t a → isPlain d ≡ true → At a i ≡ access t a i mis d
+  unfolding access
+  access-in a i mis d l h = rw (lt-ltb i (wordsOf t a) l, in-yes a i d h) refl
+
+  pub access-bad : (a i : ℕ) (mis : Bool) (d : Directive) → i < wordsOf t a → isPlain d ≡ false → Bad 22 ≡ access t a i mis d
+  unfolding access
+  access-bad a i mis d l h = rw (lt-ltb i (wordsOf t a) l, in-no a i d h) refl
+
+  pub access-out : (a i : ℕ) (mis : Bool) (d : Directive) → wordsOf t a ≤ i → mis ≡ false → Bad 24 ≡ access t a i mis d
+  unfolding access
+  access-out a i mis d l h = rw (le-ltb i (wordsOf t a) l, h) refl
+
+  pub access-stray : (a i : ℕ) (mis : Bool) (d : Directive) → wordsOf t a ≤ i → mis ≡ true → strayed t d ≡ access t a i mis d
+  unfolding access
+  access-stray a i mis d l h = rw (le-ltb i (wordsOf t a) l, h) refl
+
+  pub stray-in : (a i : ℕ) {d : Directive} → d ≡ Stray a i → a < t .arrays → i < wordsOf t a → At a i ≡ strayed t d
+  stray-in a i e h l = rw (e, lt-ltb a (t .arrays) h, lt-ltb i (wordsOf t a) l) refl
+
+  pub stray-none : (a i : ℕ) {d : Directive} → d ≡ Stray a i → t .arrays ≤ a → Bad 25 ≡ strayed t d
+  stray-none a i e h = rw (e, le-ltb a (t .arrays) h) refl
+
+  pub stray-out : (a i : ℕ) {d : Directive} → d ≡ Stray a i → a < t .arrays → wordsOf t a ≤ i → Bad 25 ≡ strayed t d
+  stray-out a i e h l = rw (e, lt-ltb a (t .arrays) h, le-ltb i (wordsOf t a) l) refl
+
+  in-touches : (a i : ℕ) (d : Directive) → i < wordsOf t a → Touches (inRange t a i d)
+  in-touches a i Plain l = l
+  in-touches a i (Branch b) l = refl
+  in-touches a i (Stray b j) l = refl
+  in-touches a i (Back q) l = refl
+
+  both : (a b : Bool) → a && b ≡ true → b ≡ true
+  both true b h = h
+  both false b h = absurd (true≢false (sym h))
+
+  stray-touches : (d : Directive) → Touches (strayed t d)
+  stray-touches Plain = refl
+  stray-touches (Branch b) = refl
+  stray-touches (Stray b j) = pick-ind Touches (ltb b (t .arrays) && ltb j (wordsOf t b)) (λ h. ltb-true j (wordsOf t b) (both (ltb b (t .arrays)) (ltb j (wordsOf t b)) h)) (λ _. refl)
+  stray-touches (Back q) = refl
+
+  pub access-touches : (a i : ℕ) (mis : Bool) (d : Directive) → Touches (access t a i mis d)
+  unfolding access
+  access-touches a i mis d =
+      pick-ind Touches (ltb i (wordsOf t a)) (λ h. in-touches a i d (ltb-true i (wordsOf t a) h))
+      (λ _. pick-ind Touches mis (λ _. stray-touches d) (λ _. refl))
+
+  pub touched : (a i : ℕ) (mis : Bool) (d : Directive) {r : Access} → access t a i mis d ≡ r → Touches r
+  touched a i mis d e = subst Touches e (access-touches a i mis d)
+
+  -- LOAD and STORE
+  pub load-bad : (p : Plan) (x : Data) (c : Ctl) (d a i n : ℕ) (mis : Bool) (dir : Directive) → access t a (reg x i) mis dir ≡ Bad n → p .stop ≡ n
+      → viewPlan t p x ≡ onward (work t (Load d a i) dir mis x) c
+  load-bad p x c d a i n mis dir e h =
+      stops t p x h (touched a (reg x i) mis dir e)
+      ∙ sym (ap (λ (w : Access). onward (byAccess w (λ b j. did (wrote x d (wordAt t x b j)) (Address a (reg x i)))) c) e)
+
+  pub load-word : (x : Data) (c : Ctl) (d a i b j : ℕ) (mis : Bool) (dir : Directive) → access t a (reg x i) mis dir ≡ At b j
+      → Went c (wrote x d (wordAt t x b j)) (Address a (reg x i)) ≡ onward (work t (Load d a i) dir mis x) c
+  load-word x c d a i b j mis dir e = sym (ap (λ (w : Access). onward (byAccess w (λ b j. did (wrote x d (wordAt t x b j)) (Address a (reg x i)))) c) e)
+
+  pub store-bad : (p : Plan) (x : Data) (c : Ctl) (a i s n : ℕ) (mis : Bool) (dir : Directive) → access t a (reg x i) mis dir ≡ Bad n → p .stop ≡ n
+      → viewPlan t p x ≡ onward (work t (Store a i s) dir mis x) c
+  store-bad p x c a i s n mis dir e h =
+      stops t p x h (touched a (reg x i) mis dir e)
+      ∙ sym (ap (λ (w : Access). onward (byAccess w (λ b j. did (stored t x b j (reg x s)) (Address a (reg x i)))) c) e)
+
+  pub store-word : (x : Data) (c : Ctl) (a i s b j : ℕ) (mis : Bool) (dir : Directive) → access t a (reg x i) mis dir ≡ At b j
+      → Went c (stored t x b j (reg x s)) (Address a (reg x i)) ≡ onward (work t (Store a i s) dir mis x) c
+  store-word x c a i s b j mis dir e = sym (ap (λ (w : Access). onward (byAccess w (λ b j. did (stored t x b j (reg x s)) (Address a (reg x i)))) c) e)
+
+-- two bytes
+pub small-16 : (t : List ℕ) (p : ℕ) → ((i : ℕ) → byte t i < 256) → word16 t p < 65536
+small-16 t p h = omega (arith, h p, h (p + 1))
+
+pub small-words : (z : Sizes) (t : List ℕ) (a : ℕ) → ((i : ℕ) → byte t i < 256) → wordsOf (tableWith z t) a < 65536
+small-words z t a h = go (decLt a (z .arrays))
+  where
+    go : Dec (a < z .arrays) → wordsOf (tableWith z t) a < 65536
+    go (yes l) = rw (words-first z t (z .arrays) a l) (small-16 t (4 + 3 * a + 1) h)
+    go (no l) = rw (words-out z t (z .arrays) 0 a (omega arith)) (omega arith)
+
+-- ---- the stack
+stack-set : (d : ℕ) (xs : List ℕ) (k v : ℕ) → d ≤ k → stackOf d (set xs k v) ≡ stackOf d xs
+stack-set zero xs k v l = refl
+stack-set (suc d) xs k v l = rw (getD-set-other xs k d v 0 (λ e. omega arith), stack-set d xs k v (omega arith)) refl
+
+push : (xs : List ℕ) (d q : ℕ) → d < length xs → stackOf (suc d) (set xs d q) ≡ q ∷ stackOf d xs
+push xs d q l = rw (getD-set-same xs d q 0 l, stack-set d xs d q (omega arith)) refl
+
+pub pushes : (xs : List ℕ) (d q k v : ℕ) → d < length xs → k ≡ suc d → v ≡ q → stackOf k (set xs d v) ≡ q ∷ stackOf d xs
+pushes xs d q k v l e f = ap (λ (n : ℕ). stackOf n (set xs d v)) e ∙ push xs d v l ∙ ap (λ (w : ℕ). w ∷ stackOf d xs) f
+
+pub pops : (xs : List ℕ) (d : ℕ) → stackOf (d - 1) xs ≡ below (stackOf d xs)
+pops xs zero = refl
+pops xs (suc d) = rw sub-one refl
+
+pub top-none : (xs : List ℕ) (d q : ℕ) → d ≡ 0 → false ≡ tops (stackOf d xs) q
+top-none xs d q e = rw e refl
+
+pub top-at : (xs : List ℕ) (d q : ℕ) → (d ≡ 0 → ⊥) → eqb (getD xs (d - 1) 0) q ≡ tops (stackOf d xs) q
+top-at xs zero q h = absurd (h refl)
+top-at xs (suc d) q h = rw sub-one refl
+
+pub top-out : (xs : List ℕ) (d q : ℕ) → length xs ≤ 31 → 31 < d → eqb 0 q ≡ tops (stackOf d xs) q
+top-out xs zero q l h = absurd (omega arith)
+top-out xs (suc d) q l h = rw (List·getD-eq-default xs 0 {n = d} (omega arith)) refl
+
+pop-is : (st : List ℕ) (q : ℕ) → pop st q ≡ pick (tops st q) (some (below st)) none
+pop-is [] q = refl
+pop-is (p ∷ ps) q = refl
+
+pub right-top : (t : Table) (q : ℕ) (c : Ctl) (x : Data) → tops (c .stack) q ≡ true → Went (leaves c q) x Nothing ≡ right t (pop (c .stack) q) q c x
+right-top t q c x h = sym (ap (λ (o : Option (List ℕ)). right t o q c x) (pop-is (c .stack) q ∙ picked (tops (c .stack) q) (some (below (c .stack))) none h))
+
+pub right-lost : (t : Table) (q : ℕ) (c : Ctl) (x : Data) → tops (c .stack) q ≡ false → wrong t (t .site (c .place) q) q x ≡ right t (pop (c .stack) q) q c x
+right-lost t q c x h = sym (ap (λ (o : Option (List ℕ)). right t o q c x) (pop-is (c .stack) q ∙ passed (tops (c .stack) q) (some (below (c .stack))) none h))
+
+-- ---- the function that a place lies in
+pub home-none : (f : ℕ → ℕ) (n p : ℕ) → n ≡ 0 → 0 ≡ homeOf f n p
+unfolding homeOf
+home-none f n p e = rw e refl
+
+pub home-here : (f : ℕ → ℕ) (n p : ℕ) → (n ≡ 0 → ⊥) → f (n - 1) ≤ p → n - 1 ≡ homeOf f n p
+unfolding homeOf
+home-here f zero p h l = absurd (h refl)
+home-here f (suc n) p h l = rw (sub-one, le-leb (f n) p (rw sub-one at l)) refl
+
+pub home-before : (f : ℕ → ℕ) (n p : ℕ) → (n ≡ 0 → ⊥) → p < f (n - 1) → homeOf f (n - 1) p ≡ homeOf f n p
+unfolding homeOf
+home-before f zero p h l = absurd (h refl)
+home-before f (suc n) p h l = rw (sub-one, lt-leb (f n) p (rw sub-one at l)) refl
+
+-- ---- the look for a CALL, k bounding the records from c on
+module _ (r : ℕ → Record) (size f q : ℕ) where
+  pub scan-hit : (k c : ℕ) → size - c ≤ k → c < size → q ≡ c + 3 → scan r k size c f q ≡ callMark (r c) f
+  unfolding scan
+  scan-hit zero c l h e = absurd (omega arith)
+  scan-hit (suc k) c l h e = rw (lt-ltb c size h, eq-eqb q (c + 3) e) refl
+
+  pub scan-next : (k c : ℕ) {n : ℕ} → size - c ≤ k → c < size → (q ≡ c + 3 → ⊥) → n ≡ c + lengthOf (r c)
+      → (j : ℕ) × (size - n ≤ j) × (scan r k size c f q ≡ scan r j size n f q)
+  unfolding scan
+  scan-next zero c l h e g = absurd (omega arith)
+  scan-next (suc k) c l h e g = (k, omega (arith, length-pos (r c)), rw (lt-ltb c size h, ne-eqb q (c + 3) e, g) refl)
+
+  pub scan-end : (k c : ℕ) → size ≤ c → scan r k size c f q ≡ none
+  unfolding scan
+  scan-end zero c l = refl
+  scan-end (suc k) c l = rw (le-ltb c size l) refl
+
+-- ---- records
+pub record-got : (z : Sizes) (t : List ℕ) (at : ℕ) {r : Record} {n : ℕ} → decodeAt z t at ≡ Got r n → recordOf z t at ≡ r
+unfolding recordOf
+record-got z t at e = ap recordFrom e
+
+pub record-bad : (z : Sizes) (t : List ℕ) (at : ℕ) {n p : ℕ} → decodeAt z t at ≡ Unread n p → recordOf z t at ≡ Return
+unfolding recordOf
+record-bad z t at e = ap recordFrom e
+
+pub known : (z : Sizes) (t : List ℕ) (at : ℕ) {d : Decoded} {r s : Record} {n : ℕ} → d ≡ decodeAt z t at → d ≡ Got r n → r ≡ s → decodeAt z t at ≡ Got s n
+known z t at {n = n} e g h = sym e ∙ g ∙ ap (λ (r : Record). Got r n) h
+
+-- the step at a record
+pub step-is : (z : Sizes) (t : List ℕ) (c : Ctl) (dir : Directive) (x : Data) {r : Record} → recordOf z t (c .place) ≡ r → stepOf (tableWith z t) r c dir x ≡ step (tableWith z t) c dir x
+unfolding step
+step-is z t c dir x e = sym (ap (λ (r : Record). stepOf (tableWith z t) r c dir x) e)
+
+pub step-got : (z : Sizes) (t : List ℕ) (c : Ctl) (dir : Directive) (x : Data) {r : Record} {n : ℕ} → decodeAt z t (c .place) ≡ Got r n → stepOf (tableWith z t) r c dir x ≡ step (tableWith z t) c dir x
+step-got z t c dir x e = step-is z t c dir x (record-got z t (c .place) e)
+
+-- values that were read
+pub op-value : (o : ℕ) {l m r n v : ℕ} → v ≡ operate o l r → l ≡ m → r ≡ n → v ≡ operate o m n
+op-value o {m = m} {r} e f g = e ∙ ap (λ (i : ℕ). operate o i r) f ∙ ap (operate o m) g
+
+pub select-value : {b c : Bool} {l m r n v : ℕ} → v ≡ pick b l r → b ≡ c → l ≡ m → r ≡ n → v ≡ pick c m n
+select-value {c = c} {l} {m} {r} e h f g = e ∙ ap (λ (b : Bool). pick b l r) h ∙ ap (λ (i : ℕ). pick c i r) f ∙ ap (λ (i : ℕ). pick c m i) g

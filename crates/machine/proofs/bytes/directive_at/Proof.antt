@@ -1,0 +1,79 @@
+use Rattle.machine.specs.Directives.{directiveAt}
+use borrow.Author.Tests.{ne-eqb}
+use borrow.Author.Needs.{needs}
+use Rattle.machine.proofs.bytes.directive_at.Statement.{statement}
+use Rattle.machine.proofs.bytes.directive_at.Tie as tie
+use Rattle.machine.proofs.bytes.directive_at.Reads as reads
+use Rattle.machine.proofs.bytes.directive_at.Lts as lts
+use Rattle.machine.proofs.bytes.back_at.Reads as back-at-reads
+use Rattle.machine.proofs.bytes.branch_at.Reads as branch-at-reads
+use Rattle.machine.proofs.bytes.stray_at.Reads as stray-at-reads
+
+-- src/bytes.rt:19:16
+shared-slice-read-kind : tie.Need-shared-slice-read-kind
+shared-slice-read-kind c = search needs
+
+-- src/bytes.rt:21:43
+add-t8 : tie.Need-add-t8
+add-t8 c = search needs
+
+-- src/bytes.rt:22:15
+branch-at-requires : tie.Need-branch-at-requires
+branch-at-requires c κs = search needs
+
+-- src/bytes.rt:23:15
+stray-at-requires : tie.Need-stray-at-requires
+stray-at-requires c κs = search needs
+
+-- src/bytes.rt:24:15
+back-at-requires : tie.Need-back-at-requires
+back-at-requires c κs = search needs
+
+-- src/bytes.rt:15:1
+returns : tie.Need-returns
+unfolding directiveAt
+returns c =
+    simp (c .match .keys1)
+
+-- src/bytes.rt:15:1
+returns-2 : tie.Need-returns-2
+unfolding directiveAt
+returns-2 c =
+    simp (c .before .match .keys2) (c .branch-at .ensures)
+
+-- src/bytes.rt:15:1
+returns-3 : tie.Need-returns-3
+unfolding directiveAt
+returns-3 c =
+    simp (c .before .match .keys3) (c .stray-at .ensures)
+
+-- src/bytes.rt:15:1
+returns-4 : tie.Need-returns-4
+unfolding directiveAt
+returns-4 c =
+    simp (c .before .match .keys4) (c .back-at .ensures)
+
+-- src/bytes.rt:15:1
+returns-5 : tie.Need-returns-5
+unfolding directiveAt
+returns-5 c =
+    let r0 = c .match .rest .1 in
+    let r1 = c .match .rest .0 .1 in
+    let r2 = c .match .rest .0 .0 .1 in
+    let r3 = c .match .rest .0 .0 .0 .1 in
+    simp ne-eqb
+
+pub directive-at-spec : {M : Type 1} → statement M
+directive-at-spec =
+    tie.close
+    (tie.spec
+    shared-slice-read-kind
+    add-t8
+    branch-at-requires
+    stray-at-requires
+    back-at-requires
+    returns
+    returns-2
+    returns-3
+    returns-4
+    returns-5)

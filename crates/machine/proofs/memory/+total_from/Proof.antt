@@ -1,0 +1,109 @@
+use native.Mathlib.Omega.{arith}
+use mathlib.Core.Path.{sym}
+use borrow.Author.Needs.{needs}
+use Rattle.machine.proofs.Words.{total-none, total-is}
+use Prim.Native.Nat.{ℕ, _<_}
+use borrow.Fn.Kinds.{In}
+use borrow.Fn.PlainCycle.{Measures, is, falls, and}
+use Rattle.machine.proofs.memory.total_from.Reads as total-from
+use Rattle.machine.proofs.memory.total_from.Kinds as total-from-kinds
+use Rattle.machine.proofs.memory.+total_from.Lts-total_from as total-from-lts
+use Rattle.format.proofs.words_at.Reads as words-at-reads
+use Rattle.machine.proofs.memory.+total_from.{statement}
+use Rattle.machine.proofs.memory.+total_from.Tie.{close}
+
+abbrev μ-total-from : Measures 1 total-from-kinds.ps ℕ
+μ-total-from κs a = a .1 .1 .0
+
+abbrev total-from-at : ℕ → In 1 total-from-kinds.ps
+total-from-at t =
+    and 1 total-from-kinds.ps (is 1 total-from-kinds.ps μ-total-from t) total-from.Pre
+
+abbrev total-from-below : ℕ → In 1 total-from-kinds.ps
+total-from-below t =
+    and 1 total-from-kinds.ps (falls 1 total-from-kinds.ps _<_ μ-total-from t) total-from.Pre
+
+-- src/memory.rt:40:9
+total-from-returns : (t : ℕ) → total-from-lts.Need-returns (
+  words-at-reads.Asked,
+  words-at-reads.Learnt,
+  total-from-below t,
+  total-from.Post,
+) (total-from-at t) total-from.Post
+total-from-returns t c =
+    let A = c .before .before .args in
+    (sym (total-none (A .z) (A .t .now) (A .n) (A .a) (c .if1 .taken)), omega arith)
+
+-- src/memory.rt:42:5
+total-from-words-at-requires : (t : ℕ) → total-from-lts.Need-words-at-requires (
+  words-at-reads.Asked,
+  words-at-reads.Learnt,
+  total-from-below t,
+  total-from.Post,
+) (total-from-at t) total-from.Post
+total-from-words-at-requires t c κs = search needs
+
+-- src/memory.rt:42:50
+total-from-sub-total-from : (t : ℕ) → total-from-lts.Need-sub-total-from (
+  words-at-reads.Asked,
+  words-at-reads.Learnt,
+  total-from-below t,
+  total-from.Post,
+) (total-from-at t) total-from.Post
+total-from-sub-total-from t c = search needs
+
+-- src/memory.rt:42:57
+total-from-add-total-from : (t : ℕ) → total-from-lts.Need-add-total-from (
+  words-at-reads.Asked,
+  words-at-reads.Learnt,
+  total-from-below t,
+  total-from.Post,
+) (total-from-at t) total-from.Post
+total-from-add-total-from t c = search needs
+
+-- src/memory.rt:42:33
+total-from-total-from-requires : (t : ℕ) → total-from-lts.Need-total-from-requires (
+  words-at-reads.Asked,
+  words-at-reads.Learnt,
+  total-from-below t,
+  total-from.Post,
+) (total-from-at t) total-from.Post
+total-from-total-from-requires t c κs = search needs
+
+-- src/memory.rt:42:5
+total-from-add-result : (t : ℕ) → total-from-lts.Need-add-result (
+  words-at-reads.Asked,
+  words-at-reads.Learnt,
+  total-from-below t,
+  total-from.Post,
+) (total-from-at t) total-from.Post
+total-from-add-result t c = search needs
+
+-- src/memory.rt:35:1
+total-from-returns-2 : (t : ℕ) → total-from-lts.Need-returns-2 (
+  words-at-reads.Asked,
+  words-at-reads.Learnt,
+  total-from-below t,
+  total-from.Post,
+) (total-from-at t) total-from.Post
+total-from-returns-2 t c =
+    let A = c .before .before .before .before .args in
+    let e = total-is (A .z) (A .t .now) (A .n) (A .a) (c .before .before .if1 .left) in
+    (rw (e, c .before .words-at .ensures .0, c .total-from .ensures .0), omega (arith, c .before .words-at .ensures .1, c .total-from .ensures .1))
+
+pub +total-from-spec : {M : Type 1} → statement M
++total-from-spec = close μ-total-from λ t. total-from-lts.spec (
+  words-at-reads.Asked,
+  words-at-reads.Learnt,
+  total-from-below t,
+  total-from.Post,
+)
+    (total-from-at t)
+    total-from.Post
+    (total-from-returns t)
+    (total-from-words-at-requires t)
+    (total-from-sub-total-from t)
+    (total-from-add-total-from t)
+    (total-from-total-from-requires t)
+    (total-from-add-result t)
+    (total-from-returns-2 t)

@@ -1,0 +1,30 @@
+use mathlib.Core.Path.{sym}
+use lib.Seq.{set-out}
+use borrow.Author.Needs.{needs}
+use Rattle.machine.proofs.memory.put.Statement.{statement}
+use Rattle.machine.proofs.memory.put.Tie as tie
+use Rattle.machine.proofs.memory.put.Reads as reads
+use Rattle.machine.proofs.memory.put.Lts as lts
+
+-- src/memory.rt:30:9
+mul-s : tie.Need-mul-s
+mul-s c = search needs
+
+-- src/memory.rt:30:9
+slice-write-s : tie.Need-slice-write-s
+slice-write-s c = search needs
+
+-- src/memory.rt:26:1
+same-length : tie.Need-same-length
+same-length c = search needs
+
+-- src/memory.rt:26:1
+returns : tie.Need-returns
+returns c = search needs
+
+-- src/memory.rt:26:1
+returns-2 : tie.Need-returns-2
+returns-2 c = sym (set-out _ _ _ (c .if1 .left))
+
+pub put-spec : {M : Type 1} → statement M
+put-spec = tie.close (tie.spec mul-s slice-write-s same-length returns returns-2)

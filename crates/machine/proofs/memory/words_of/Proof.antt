@@ -1,0 +1,28 @@
+use native.Mathlib.Omega.{arith}
+use mathlib.Core.Path.{sym, _∙_}
+use Rattle.machine.proofs.Words.{words-first, words-out}
+use borrow.Author.Needs.{needs}
+use Rattle.machine.proofs.memory.words_of.Statement.{statement}
+use Rattle.machine.proofs.memory.words_of.Tie as tie
+use Rattle.machine.proofs.memory.words_of.Reads as reads
+use Rattle.machine.proofs.memory.words_of.Lts as lts
+use Rattle.format.proofs.words_at.Reads as words-at-reads
+
+-- src/memory.rt:81:9
+words-at-requires : tie.Need-words-at-requires
+words-at-requires c κs = search needs
+
+-- src/memory.rt:81:9
+returns : tie.Need-returns
+returns c =
+    let A = c .before .before .before .before .args in
+    (c .words-at .ensures .0 ∙ sym (words-first (A .z) (A .t .now) (A .z .arrays) (A .a) (c .before .if1 .taken)), c .words-at .ensures .1)
+
+-- src/memory.rt:77:1
+returns-2 : tie.Need-returns-2
+returns-2 c =
+    let A = c .before .before .before .args in
+    (sym (words-out (A .z) (A .t .now) (A .z .arrays) 0 (A .a) (c .if1 .left)), omega arith)
+
+pub words-of-spec : {M : Type 1} → statement M
+words-of-spec = tie.close (tie.spec words-at-requires returns returns-2)

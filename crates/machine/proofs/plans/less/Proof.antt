@@ -1,0 +1,20 @@
+use borrow.Author.Tests.{lt-ltb, le-ltb}
+use Rattle.machine.proofs.plans.less.Statement.{statement}
+use Rattle.machine.proofs.plans.less.Tie as tie
+use Rattle.machine.proofs.plans.less.Reads as reads
+use Rattle.machine.proofs.plans.less.Lts as lts
+
+-- src/plans.rt:118:1
+returns : tie.Need-returns
+returns c =
+    let h = c .if1 .taken in
+    simp lt-ltb
+
+-- src/plans.rt:118:1
+returns-2 : tie.Need-returns-2
+returns-2 c =
+    let h = c .if1 .left in
+    simp le-ltb
+
+pub less-spec : {M : Type 1} → statement M
+less-spec = tie.close (tie.spec returns returns-2)

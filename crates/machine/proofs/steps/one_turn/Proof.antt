@@ -1,0 +1,109 @@
+use native.Mathlib.Omega.{arith}
+use mathlib.Core.Path.{_≡_, refl, sym, ap, subst, _∙_}
+use Rattle.machine.specs.Turns.{lent}
+use Rattle.machine.proofs.Stepping.{turn-over, turn-used, turn-bad, turn-acts}
+use borrow.Author.Needs.{needs}
+use Rattle.machine.proofs.steps.one_turn.Statement.{statement}
+use Rattle.machine.proofs.steps.one_turn.Tie as tie
+use Rattle.machine.proofs.steps.one_turn.Reads as reads
+use Rattle.machine.proofs.steps.one_turn.Lts as lts
+use Rattle.machine.proofs.bytes.directive_at.Reads as directive-at-reads
+use Rattle.machine.proofs.steps.act.Reads as act-reads
+use Rattle.machine.proofs.steps.ended.Reads as ended-reads
+use Rattle.machine.proofs.steps.last_place.Reads as last-place-reads
+
+-- src/steps.rt:103:17
+last-place-requires : tie.Need-last-place-requires
+last-place-requires c κs = search needs
+
+-- src/steps.rt:104:9
+ended-requires : tie.Need-ended-requires
+ended-requires c κs = search needs
+
+-- src/steps.rt:104:9
+returns : tie.Need-returns
+returns c =
+    let a = c .before .before .before .before .before .before .before .before .args in
+    let ready = c .before .before .before .before .before .before .before .before .pre .0 in
+    let last = c .before .before .last-place .ensures in
+    turn-over (a .z) (a .t .now) (a .s) (a .dirs .now) (a .at) (a .seen) (lent (a .regs .now) (a .mem .now) (a .obs .now)) ready _ (c .before .if1 .taken ∙ last) (c .ended .ensures .0) (c .ended .ensures .1)
+
+-- src/steps.rt:107:9
+ended-requires-2 : tie.Need-ended-requires-2
+ended-requires-2 c κs = search needs
+
+-- src/steps.rt:107:9
+returns-2 : tie.Need-returns-2
+returns-2 c =
+    let a = c .before .before .before .before .before .before .before .before .before .args in
+    let ready = c .before .before .before .before .before .before .before .before .before .pre .0 in
+    let last = c .before .before .before .last-place .ensures in
+    turn-used (a .z) (a .t .now) (a .s) (a .dirs .now) (a .at) (a .seen) (lent (a .regs .now) (a .mem .now) (a .obs .now)) ready _ (λ q. c .before .before .if1 .left (q ∙ sym last)) (c .before .if2 .taken) (c .ended2 .ensures .0) (c .ended2 .ensures .1)
+
+-- src/steps.rt:109:9
+directive-at-requires : tie.Need-directive-at-requires
+directive-at-requires c κs = search needs
+
+-- src/steps.rt:111:22
+enum-told : tie.Need-enum-told
+enum-told c = search needs
+
+-- src/steps.rt:111:22
+ended-requires-3 : tie.Need-ended-requires-3
+ended-requires-3 c κs = search needs
+
+-- src/steps.rt:112:19
+enum-known-told : tie.Need-enum-known-told
+enum-known-told c = search needs
+
+-- src/steps.rt:112:33
+act-requires : tie.Need-act-requires
+act-requires c κs = search needs
+
+-- src/steps.rt:87:1
+returns-3 : tie.Need-returns-3
+returns-3 c =
+    let a = c .before .before .before .before .before .before .before .before .before .before .before .before .args in
+    let ready = c .before .before .before .before .before .before .before .before .before .before .before .before .pre .0 in
+    let last = c .before .before .before .before .before .before .last-place .ensures in
+    turn-bad (a .z) (a .t .now) (a .s) (a .dirs .now) (a .at) (a .seen) (lent (a .regs .now) (a .mem .now) (a .obs .now)) ready _ (λ q. c .before .before .before .before .before .if1 .left (q ∙ sym last)) (c .before .before .before .before .if2 .left) (sym (c .before .before .before .directive-at .ensures) ∙ c .before .enum-told .given .1) (c .ended3 .ensures .0) (c .ended3 .ensures .1)
+
+-- src/steps.rt:87:1
+same-length : tie.Need-same-length
+same-length c = search needs
+
+-- src/steps.rt:87:1
+same-length-2 : tie.Need-same-length-2
+same-length-2 c = search needs
+
+-- src/steps.rt:87:1
+same-length-3 : tie.Need-same-length-3
+same-length-3 c = search needs
+
+-- src/steps.rt:87:1
+returns-4 : tie.Need-returns-4
+returns-4 c =
+    let a = c .before .before .before .before .before .before .before .before .before .before .before .before .before .before .before .before .before .before .before .before .before .before .args in
+    let ready = c .before .before .before .before .before .before .before .before .before .before .before .before .before .before .before .before .before .before .before .before .before .before .pre .0 in
+    let last = c .before .before .before .before .before .before .before .before .before .before .before .before .before .before .before .before .last-place .ensures in
+    turn-acts (a .z) (a .t .now) (a .s) (a .dirs .now) (a .at) (a .seen) (lent (a .regs .now) (a .mem .now) (a .obs .now)) ready _ _ _ _ (λ q. c .before .before .before .before .before .before .before .before .before .before .before .before .before .before .before .if1 .left (q ∙ sym last)) (c .before .before .before .before .before .before .before .before .before .before .before .before .before .before .if2 .left) (sym (c .before .before .before .before .before .before .before .before .before .before .before .before .before .directive-at .ensures) ∙ c .before .before .before .before .before .before .before .before .before .before .before .told .given .1) (c .before .before .before .before .before .before .act .ensures)
+
+pub one-turn-spec : {M : Type 1} → statement M
+one-turn-spec =
+    tie.close
+    (tie.spec
+    last-place-requires
+    ended-requires
+    returns
+    ended-requires-2
+    returns-2
+    directive-at-requires
+    enum-told
+    ended-requires-3
+    enum-known-told
+    act-requires
+    returns-3
+    same-length
+    same-length-2
+    same-length-3
+    returns-4)

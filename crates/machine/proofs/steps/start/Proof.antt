@@ -1,0 +1,23 @@
+use mathlib.Core.Path.{_≡_, refl}
+use borrow.Author.Needs.{needs}
+use Rattle.machine.proofs.steps.start.Statement.{statement}
+use Rattle.machine.proofs.steps.start.Tie as tie
+use Rattle.machine.proofs.steps.start.Reads as reads
+use Rattle.machine.proofs.steps.start.Lts as lts
+use Rattle.format.proofs.start_of.Reads as start-of-reads
+use Rattle.machine.proofs.plans.one_less.Reads as one-less-reads
+
+-- src/steps.rt:119:9
+one-less-requires : tie.Need-one-less-requires
+one-less-requires c κs = search needs
+
+-- src/steps.rt:121:16
+start-of-requires : tie.Need-start-of-requires
+start-of-requires c κs = search needs
+
+-- src/steps.rt:116:1
+returns : tie.Need-returns
+returns c = (rw (c .start-of .ensures .0, c .before .one-less .ensures), refl)
+
+pub start-spec : {M : Type 1} → statement M
+start-spec = tie.close (tie.spec one-less-requires start-of-requires returns)

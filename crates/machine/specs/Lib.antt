@@ -1,0 +1,6 @@
+pub mod Directives
+pub mod States
+pub mod Runs
+pub mod Turns
+pub mod Everywhere
+pub mod Stops

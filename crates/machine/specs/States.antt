@@ -1,0 +1,93 @@
+-- What the machine's state and its plan for one step stand for.
+use Prim.Native.Nat.{ℕ, zero, suc, _<_, _≤_}
+use mathlib.Core.Path.{_≡_}
+use mathlib.Core.Bool.{Bool, true, false, not, _||_}
+use mathlib.Core.Option.{Option, none, some}
+use mathlib.Core.List.{List, [], _∷_}
+use lib.ListN.{length, getD}
+use lib.Dec.{eqb}
+use Rattle.model.specs.Tests.{pick}
+use Rattle.model.specs.Table.{Table}
+use Rattle.model.specs.Machine.{Ctl, Data, holds, wrote, stored, flagged, to, wordsOf, did, plain, onward, Stepped, Stop, Went}
+use Rattle.model.specs.declared.Directive.{Directive}
+use Rattle.model.specs.declared.Directive.the-variants.{Plain, Branch, Stray, Back}
+use Rattle.model.specs.declared.Sizes.{Sizes}
+use Rattle.model.specs.declared.Record.the-variants.{Call}
+use Rattle.format.specs.Layout.{recordOf}
+use Rattle.model.specs.declared.Observation.the-variants.{Nothing}
+use Rattle.machine.specs.declared.State.{State}
+use Rattle.machine.specs.declared.Effect.{Effect}
+use Rattle.machine.specs.declared.Effect.the-variants.{None, Register, Word}
+use Rattle.machine.specs.declared.Plan.{Plan}
+use Rattle.machine.specs.declared.Site.{Site}
+use Rattle.machine.specs.declared.Site.the-variants.{Marked, Nowhere}
+
+-- the first d places of the stack's array, the last of them on top
+abbrev pub stackOf : ℕ → List ℕ → List ℕ
+stackOf zero xs = []
+stackOf (suc d) xs = getD xs d 0 ∷ stackOf d xs
+
+abbrev pub ctlOf : State → Ctl
+ctlOf s = record { place = s .place; stack = stackOf (s .depth) (s .stack); mis = s .mis }
+
+abbrev pub words : List ℕ → List ℕ → Bool → Data
+words regs mem m = record { regs = regs; mem = mem; masked = m }
+
+abbrev pub dataOf : State → List ℕ → List ℕ → Data
+dataOf s regs mem = words regs mem (s .masked)
+
+-- one register, or one word of an array, or nothing
+abbrev pub applied : Table → Effect → Data → Data
+applied t None x = x
+applied t (Register d v) x = wrote x d v
+applied t (Word a i v) x = stored t x a i v
+
+-- a plan whose stop is 0 goes on
+abbrev pub viewPlan : Table → Plan → Data → Stepped
+viewPlan t p x = pick (eqb (p .stop) 0) (Went (ctlOf (p .state)) (flagged (applied t (p .effect) x) (p .state .masked)) (p .seen)) (Stop (p .stop))
+
+-- a record that takes 60 and goes on at p: what it does to the data, and the flag afterwards
+abbrev pub plainly : Table → Directive → State → ℕ → Effect → Bool → Data → Stepped
+plainly t dir s p e m x = onward (plain dir (did (flagged (applied t e x) m) Nothing)) (to (ctlOf s) p)
+
+-- an effect lies in registers and memory
+abbrev pub Lands : Table → Effect → Type 0
+Lands t None = Unit {0}
+Lands t (Register d v) = Unit {0}
+Lands t (Word a i v) = i < wordsOf t a
+
+abbrev pub markOf : Site → Option Bool
+markOf (Marked m) = some m
+markOf Nowhere = none
+
+abbrev pub isPlain : Directive → Bool
+isPlain Plain = true
+isPlain (Branch b) = false
+isPlain (Stray a i) = false
+isPlain (Back q) = false
+
+-- control after a CALL: q is pushed, and the machine goes to p
+abbrev pub called : Ctl → ℕ → ℕ → Ctl
+called c q p = record { place = p; stack = q ∷ c .stack; mis = c .mis }
+
+-- control after a branch on the value v
+abbrev pub wayOf : Ctl → Bool → ℕ → ℕ → ℕ → Ctl
+wayOf c b v p q = record { place = pick b p q; stack = c .stack; mis = c .mis || not (holds v b) }
+
+-- q is on top of the stack
+abbrev pub tops : List ℕ → ℕ → Bool
+tops [] q = false
+tops (p ∷ ps) q = eqb p q
+
+abbrev pub below : List ℕ → List ℕ
+below [] = []
+below (p ∷ ps) = ps
+
+-- control after a right return
+abbrev pub leaves : Ctl → ℕ → Ctl
+leaves c q = record { place = q; stack = below (c .stack); mis = c .mis }
+
+-- a table that has been read, and a state that has room on its stack wherever it stands at a CALL
+pub record Planned (z : Sizes) (t : List ℕ) (s : State) : Type 0 where
+  pub short : length t ≤ 32768
+  pub room : (f : ℕ) (m : Bool) → recordOf z t (s .place) ≡ Call f m → s .depth < 31

@@ -1,0 +1,68 @@
+-- What one turn of the run does: a step of the model, or a stop that leaves everything as it was.
+use Prim.Native.Nat.{ℕ, _+_, _-_, _<_, _≤_}
+use mathlib.Core.Path.{_≡_}
+use mathlib.Core.Bool.{Bool, false}
+use mathlib.Core.List.{List, []}
+use lib.ListN.{length}
+use lib.Seq.{sets}
+use Rattle.model.specs.Machine.{Ctl, Data, Went, step, size, Final, final, afterStep, ended, run}
+use Rattle.model.specs.Table.{entry}
+use Rattle.model.specs.declared.Sizes.{Sizes}
+use Rattle.model.specs.declared.Directive.{Directive}
+use Rattle.model.specs.declared.Observation.{Observation}
+use Rattle.format.specs.Layout.{wordsFrom, tableWith}
+use Rattle.machine.specs.declared.State.{State}
+use Rattle.machine.specs.declared.Turn.{Turn}
+use Rattle.machine.specs.declared.Told.the-variants.{Got}
+use Rattle.machine.specs.Directives.{directiveAt, directivesFrom, bytesOf}
+use Rattle.machine.specs.States.{ctlOf, dataOf, Planned}
+use Rattle.machine.specs.Runs.{total}
+
+-- registers, memory, observations
+pub record Lent : Type 0 where
+  pub regs : List ℕ
+  pub mem : List ℕ
+  pub obs : List ℕ
+
+abbrev pub lent : List ℕ → List ℕ → List ℕ → Lent
+lent r m o = record { regs = r; mem = m; obs = o }
+
+-- the table has been read, memory is of its size, the state stands where a run can stand, and the table's last byte is the entry's RETURN
+pub record Ready (z : Sizes) (t : List ℕ) (s : State) (mem : List ℕ) : Type 0 where
+  pub planned : Planned z t s
+  pub long : length mem ≡ total (wordsFrom z t (z .arrays) 0)
+  pub last : (tableWith z t) .ret (entry (tableWith z t)) ≡ length t - 1
+
+module _ (z : Sizes) (t : List ℕ) (s : State) where
+  -- the step was made, under dir
+  pub record ActMoves (dir : Directive) (next seen : ℕ) (a : Lent) (r : Turn) (b : Lent) : Type 0 where
+    pub saw : Observation
+    pub stepped : step (tableWith z t) (ctlOf s) dir (dataOf s (a .regs) (a .mem)) ≡ Went (ctlOf (r .state)) (dataOf (r .state) (b .regs) (b .mem)) saw
+    pub room : size saw ≤ length (a .obs) - seen
+    pub wrote : b .obs ≡ sets (a .obs) seen (bytesOf saw)
+    pub at : r .at ≡ next
+    pub seen′ : r .seen ≡ seen + size saw
+
+  -- no step was made: a stop of the step's own, or 26
+  pub record ActHalts (dir : Directive) (seen : ℕ) (a : Lent) (r : Turn) (b : Lent) : Type 0 where
+    pub stays : r .state ≡ s
+    pub kept : a ≡ b
+    pub stopped : (f : ℕ → Ctl → Data → Final)
+        → afterStep (step (tableWith z t) (ctlOf s) dir (dataOf s (a .regs) (a .mem))) (length (a .obs) - seen) (ctlOf s) (dataOf s (a .regs) (a .mem)) f
+        ≡ final (r .stop) 0 (ctlOf s) (dataOf s (a .regs) (a .mem)) []
+
+  pub record TurnMoves (dirs : List ℕ) (at seen : ℕ) (a : Lent) (r : Turn) (b : Lent) : Type 0 where
+    pub dir : Directive
+    pub next : ℕ
+    pub going : ended (tableWith z t) (ctlOf s) ≡ false
+    pub inside : at < length dirs
+    pub told : directiveAt dirs at ≡ Got dir next
+    pub acts : ActMoves dir next seen a r b
+
+  -- the run ends here
+  pub record TurnHalts (dirs : List ℕ) (at seen : ℕ) (a : Lent) (r : Turn) (b : Lent) : Type 0 where
+    pub stays : r .state ≡ s
+    pub kept : a ≡ b
+    pub stopped : (k : ℕ) → length dirs - at ≤ k
+        → run (tableWith z t) (directivesFrom k dirs at) (length (a .obs) - seen) (ctlOf s) (dataOf s (a .regs) (a .mem))
+        ≡ final (r .stop) 0 (ctlOf s) (dataOf s (a .regs) (a .mem)) []

@@ -1,0 +1,162 @@
+// The run's steps: each uses one directive and writes one observation, until a stop. Tested in the order 21, 20, 23, 24, 22,
+// 25, 26, before anything changes: a plan is made first, and room for its observation looked for, before it is carried out.
+use crate::Outcome;
+use crate::State;
+use crate::Stop;
+use crate::Told;
+use crate::Turn;
+use crate::bytes::directive_at;
+use crate::bytes::put_observation;
+use crate::bytes::size_of;
+use crate::memory::apply;
+use crate::plans::one_less;
+use crate::plans::plan;
+use model::Directive;
+use model::Sizes;
+ghost use mathlib.Core.Path.{_≡_};
+ghost use Prim.Native.Nat.{_+_, _-_, _≤_, _<_};
+ghost use lib.ListN.{length};
+ghost use Rattle.reading.specs.Reading.{readAt};
+ghost use Rattle.reading.specs.declared.Answer.the-variants.{Reads};
+ghost use mathlib.Core.Bool.{false};
+ghost use Rattle.format.specs.Layout.{wordsFrom, tableWith};
+ghost use Rattle.machine.specs.States.{ctlOf};
+ghost use Rattle.model.specs.Machine.{startCtl};
+ghost use Rattle.machine.specs.Runs.{ran, total, started};
+ghost use Rattle.machine.specs.Turns.{lent, TurnMoves, TurnHalts, ActMoves, ActHalts, Ready};
+
+fn ended(stop: u8, state: State, at: usize, seen: usize) -> Turn
+    ensures { λ r. ⌜ (r .stop ≡ stop) × (r .state ≡ state) ⌝ }
+{
+    Turn {
+        stop,
+        state,
+        at,
+        seen,
+    }
+}
+
+// The step under one directive.
+fn act(
+    t: &[u8],
+    z: Sizes,
+    s: State,
+    dir: Directive,
+    next: usize,
+    seen: usize,
+    regs: &mut [u32],
+    mem: &mut [u32],
+    obs: &mut [u8],
+) -> Turn
+    requires { ⌜ Ready z (now t) s (now mem) × (seen ≤ length (now obs)) ⌝ }
+    ensures moves { λ r. ⌜ (r .stop ≡ 0 → ActMoves z (now (t .entry)) s dir next seen (lent (now (regs .entry)) (now (mem .entry)) (now (obs .entry))) r (lent (now (regs .exit)) (now (mem .exit)) (now (obs .exit)))) ⌝ }
+    ensures halts { λ r. ⌜ ((r .stop ≡ 0 → ⊥) → ActHalts z (now (t .entry)) s dir seen (lent (now (regs .entry)) (now (mem .entry)) (now (obs .entry))) r (lent (now (regs .exit)) (now (mem .exit)) (now (obs .exit)))) ⌝ }
+{
+    let p = plan(t, z, s, dir, regs, mem);
+    if p.stop != 0 {
+        return ended(p.stop, s, next, seen);
+    }
+    let o = p.seen;
+    let k = size_of(o);
+    if obs.len() - seen < k {
+        return ended(26, s, next, seen);
+    }
+    put_observation(obs, seen, o);
+    let e = p.effect;
+    apply(t, z, e, regs, mem);
+    let state = p.state;
+    Turn {
+        stop: 0,
+        state,
+        at: next,
+        seen: seen + k,
+    }
+}
+
+// The place of the entry's RETURN: the table's last byte.
+fn last_place(t: &[u8]) -> usize
+    ensures { λ r. ⌜ r ≡ length (now (t .entry)) - 1 ⌝ }
+{
+    if t.len() == 0 {
+        return 0;
+    }
+    t.len() - 1
+}
+
+// One turn of the run: 21 first, then 20, then the step.
+fn one_turn(
+    t: &[u8],
+    z: Sizes,
+    s: State,
+    dirs: &[u8],
+    at: usize,
+    seen: usize,
+    regs: &mut [u32],
+    mem: &mut [u32],
+    obs: &mut [u8],
+) -> Turn
+    requires { ⌜ Ready z (now t) s (now mem) × (seen ≤ length (now obs)) ⌝ }
+    ensures moves { λ r. ⌜ (r .stop ≡ 0 → TurnMoves z (now (t .entry)) s (now (dirs .entry)) at seen (lent (now (regs .entry)) (now (mem .entry)) (now (obs .entry))) r (lent (now (regs .exit)) (now (mem .exit)) (now (obs .exit)))) ⌝ }
+    ensures halts { λ r. ⌜ ((r .stop ≡ 0 → ⊥) → TurnHalts z (now (t .entry)) s (now (dirs .entry)) at seen (lent (now (regs .entry)) (now (mem .entry)) (now (obs .entry))) r (lent (now (regs .exit)) (now (mem .exit)) (now (obs .exit)))) ⌝ }
+{
+    let place = s.place;
+    if place == last_place(t) {
+        return ended(21, s, at, seen);
+    }
+    if dirs.len() <= at {
+        return ended(20, s, at, seen);
+    }
+    let told = directive_at(dirs, at);
+    match told {
+        Told::Bad => ended(20, s, at, seen),
+        Told::Got(dir, next) => act(t, z, s, dir, next, seen, regs, mem, obs),
+    }
+}
+
+fn start(t: &[u8], z: Sizes) -> State
+    ensures { λ r. ⌜ (ctlOf r ≡ startCtl (tableWith z (now (t .entry))) false) × (r .masked ≡ false) ⌝ }
+{
+    let entry = one_less(z.functions);
+    State {
+        place: format::start_of(t, z, entry),
+        stack: [0u16; 31],
+        depth: 0,
+        mis: false,
+        masked: false,
+    }
+}
+
+// All the steps of a run, from 01's start.
+pub(crate) fn all_steps(
+    t: &[u8],
+    z: Sizes,
+    regs: &mut [u32],
+    mem: &mut [u32],
+    dirs: &[u8],
+    obs: &mut [u8],
+) -> Stop
+    requires { ⌜ (readAt (now t) ≡ Reads z) × (length (now mem) ≡ total (wordsFrom z (now t) (z .arrays) 0)) ⌝ }
+    ensures { λ r. ⌜ ran (Outcome.Stopped r) (now (regs .exit)) (now (mem .exit)) (now (obs .exit)) ≡ started z (now (t .entry)) (now (regs .entry)) (now (mem .entry)) (now (dirs .entry)) (now (obs .entry)) ⌝ }
+{
+    let mut s = start(t, z);
+    let mut at = 0;
+    let mut seen = 0;
+    let mut steps = 0;
+    loop {
+        let w = one_turn(t, z, s, dirs, at, seen, regs, mem, obs);
+        let state = w.state;
+        if w.stop != 0 {
+            return Stop {
+                number: w.stop,
+                place: state.place,
+                steps,
+                mis: state.mis,
+                masked: state.masked,
+            };
+        }
+        s = state;
+        at = w.at;
+        seen = w.seen;
+        steps += 1;
+    }
+}

@@ -1,0 +1,164 @@
+-- What reading has found out about a table that reads, as the machine and demand 3 want it.
+use Prim.Native.Nat.{ℕ, zero, suc, _+_, _-_, _*_, _<_, _≤_}
+use native.Mathlib.Omega.{arith}
+use mathlib.Core.Path.{_≡_, refl, sym, ap, subst, _∙_}
+use mathlib.Core.List.{List, [], _∷_}
+use mathlib.Core.Bool.{Bool, true, false, true≢false}
+use mathlib.Core.Option.{some}
+use lib.ListN.{length}
+use lib.Dec.{ltb, leb, eqb}
+use borrow.Author.Tests.{leb-true, leb-false, ltb-true, eqb-true, eq-eqb, le-leb}
+use Rattle.model.specs.Tests.{pick, all, pick-ind}
+use Rattle.model.specs.Packing.{packedIn, statusOf}
+use Rattle.model.specs.Sites.{scan, homeOf}
+use Rattle.model.specs.Scans.{scan-called, ret-alone, home-own}
+use Rattle.model.specs.Table.{Table, entry}
+use Rattle.model.specs.Blocks.{Every}
+use Rattle.model.specs.Rules.{reading}
+use Rattle.model.specs.Code.{Called, Reads as Known}
+use Rattle.model.specs.declared.Sizes.{Sizes}
+use Rattle.model.specs.declared.Status.the-variants.{Unknown}
+use Rattle.format.specs.Format.{byte, word16, packedAt}
+use Rattle.format.specs.Head.{then, sizesAt, arrayAt, signatureAt, arraysAt, signaturesAt}
+use Rattle.format.specs.Layout.{sizesOf, arrayPlace, signaturePlace, inOf, tableOf}
+use Rattle.format.specs.declared.To.{To}
+use Rattle.format.specs.declared.To.the-variants.{At, Fault as Off}
+use Rattle.reading.specs.declared.Answer.{Answer}
+use Rattle.reading.specs.declared.Answer.the-variants.{Reads, Refused}
+use Rattle.reading.specs.Reading.{functionsAt, partsAt, answered, readAt}
+use Rattle.reading.specs.Limits.{Limits, read-limits}
+use Rattle.reading.specs.Linked.{all-read, touches}
+
+module _ (t : List ℕ) where
+  abbrev z : Sizes
+  z = sizesOf t
+
+  -- where the head's reading goes on
+  abbrev Goes : ℕ → To → Type 0
+  Goes q (At p) = p ≡ q
+  Goes q (Off n p) = Unit {0}
+
+  sizes-go : Goes 4 (sizesAt t 0)
+  unfolding sizesAt
+  sizes-go =
+      pick-ind (Goes 4) (leb (length t) 0) (λ _. tt) (λ _. pick-ind (Goes 4) (eqb (byte t 0) 1)
+      (λ _. pick-ind (Goes 4) (ltb (length t - 0) 4) (λ _. tt) (λ _. pick-ind (Goes 4) (all (leb 1 (byte t 1) ∷ leb (byte t 1) 16 ∷ leb (byte t 2) 8 ∷ leb 1 (byte t 3) ∷ leb (byte t 3) 32 ∷ [])) (λ _. refl) (λ _. tt))) (λ _. tt))
+
+  array-goes : (at : ℕ) → Goes (at + 3) (arrayAt t at)
+  unfolding arrayAt
+  array-goes at =
+      pick-ind (Goes (at + 3)) (leb (length t) at) (λ _. tt) (λ _. pick-ind (Goes (at + 3)) (eqb (byte t at) 2)
+      (λ _. pick-ind (Goes (at + 3)) (ltb (length t - at) 3) (λ _. tt) (λ _. pick-ind (Goes (at + 3)) (all (leb 1 (word16 t (at + 1)) ∷ leb (word16 t (at + 1)) 1024 ∷ [])) (λ _. refl) (λ _. tt))) (λ _. tt))
+
+  arrays-go : (n at : ℕ) → Goes (at + 3 * n) (arraysAt t n at)
+  unfolding arraysAt
+  arrays-go zero at = omega arith
+  arrays-go (suc n) at = go (arrayAt t at) (array-goes at) (arrays-go n)
+    where
+      move : (p : ℕ) (w : To) → p ≡ at + 3 → Goes (p + 3 * n) w → Goes (at + 3 * suc n) w
+      move p (At q) e g = omega arith
+      move p (Off a b) e g = tt
+
+      go : (w : To) → Goes (at + 3) w → ((p : ℕ) → Goes (p + 3 * n) (arraysAt t n p)) → Goes (at + 3 * suc n) (then w (arraysAt t n))
+      go (At p) e ih = move p (arraysAt t n p) e (ih p)
+      go (Off a b) e ih = tt
+
+  -- a signature that n others follow: the next one is due 17 bytes on, and the entry's in status byte is 0
+  abbrev Signed : ℕ → ℕ → To → Type 0
+  Signed n at (At p) = (p ≡ at + 17) × (n ≡ 0 → byte t (at + 3) ≡ 0)
+  Signed n at (Off k p) = Unit {0}
+
+  signature-signs : (n at : ℕ) → Signed n at (signatureAt z t n at)
+  unfolding signatureAt
+  signature-signs n at =
+      let fits : ℕ → Bool = λ p. packedIn (z .registers) (z .arrays) (packedAt t p) in
+      pick-ind (Signed n at) (leb (length t) at) (λ _. tt) (λ _. pick-ind (Signed n at) (eqb (byte t at) 3)
+      (λ _. pick-ind (Signed n at) (ltb (length t - at) 17) (λ _. tt)
+      (λ _. pick-ind (Signed n at) (all (fits (at + 3) ∷ fits (at + 10) ∷ []))
+      (λ _. pick-ind (Signed n at) (all (eqb n 0 ∷ leb 1 (byte t (at + 3)) ∷ [])) (λ _. tt) (λ h. (refl, clear n (byte t (at + 3)) h)))
+      (λ _. tt))) (λ _. tt))
+    where
+      clear : (n b : ℕ) → all (eqb n 0 ∷ leb 1 b ∷ []) ≡ false → n ≡ 0 → b ≡ 0
+      clear n b h e = go (native.Mathlib.Decide.ℕ-discrete b 0)
+        where
+          go : Dec (b ≡ 0) → b ≡ 0
+          go (yes q) = q
+          go (no q) = let k : all (eqb n 0 ∷ leb 1 b ∷ []) ≡ true = rw (eq-eqb n 0 e, le-leb 1 b (omega arith)) in absurd (true≢false (sym k ∙ h))
+
+  abbrev AllSigned : ℕ → ℕ → To → Type 0
+  AllSigned n at (At p) = (1 ≤ n → byte t (at + 17 * (n - 1) + 3) ≡ 0)
+  AllSigned n at (Off k p) = Unit {0}
+
+  signatures-sign : (n at : ℕ) → AllSigned n at (signaturesAt z t n at)
+  unfolding signaturesAt
+  signatures-sign zero at = λ l. absurd (omega arith)
+  signatures-sign (suc n) at = go (signatureAt z t n at) (signature-signs n at) (signatures-sign n)
+    where
+      more : (p : ℕ) (w : To) → p ≡ at + 17 → (n ≡ 0 → byte t (at + 3) ≡ 0) → AllSigned n p w → AllSigned (suc n) at w
+      more p (Off a b) e f h = tt
+      more p (At q) e f h = λ _. last (native.Mathlib.Decide.ℕ-discrete n 0)
+        where
+          last : Dec (n ≡ 0) → byte t (at + 17 * (suc n - 1) + 3) ≡ 0
+          last (yes k) = let d : at + 17 * (suc n - 1) + 3 ≡ at + 3 = omega arith in ap (byte t) d ∙ f k
+          last (no k) = let d : at + 17 * (suc n - 1) + 3 ≡ p + 17 * (n - 1) + 3 = omega arith in ap (byte t) d ∙ h (omega arith)
+
+      go : (w : To) → Signed n at w → ((p : ℕ) → AllSigned n p (signaturesAt z t n p)) → AllSigned (suc n) at (then w (signaturesAt z t n))
+      go (At p) (e, f) ih = more p (signaturesAt z t n p) e f (ih p)
+      go (Off a b) s ih = tt
+
+  -- the entry's in status is unknown
+  abbrev Fresh : To → Type 0
+  Fresh (At p) = 1 ≤ z .functions → byte t (signaturePlace z (z .functions - 1) + 3) ≡ 0
+  Fresh (Off n p) = Unit {0}
+
+  rest-fresh : (w v : To) (f : ℕ → To) → w ≡ v → AllSigned (z .functions) (4 + 3 * z .arrays) v → Fresh (then v f)
+  rest-fresh w (Off n p) f e s = tt
+  rest-fresh w (At p) f e s = keep (f p)
+    where
+      keep : (u : To) → Fresh u
+      keep (At q) = s
+      keep (Off n q) = tt
+
+  parts-fresh : Fresh (partsAt z t)
+  unfolding partsAt
+  parts-fresh = first (sizesAt t 0) sizes-go
+    where
+      third : (q : ℕ) → q ≡ 4 + 3 * z .arrays → Fresh (then (signaturesAt z t (z .functions) q) (functionsAt z t (z .functions)))
+      third q e = rw e (rest-fresh _ (signaturesAt z t (z .functions) (4 + 3 * z .arrays)) (functionsAt z t (z .functions)) refl (signatures-sign (z .functions) (4 + 3 * z .arrays)))
+
+      second : (p : ℕ) → p ≡ 4 → (w : To) → Goes (p + 3 * z .arrays) w → Fresh (then w (λ q. then (signaturesAt z t (z .functions) q) (functionsAt z t (z .functions))))
+      second p e (At q) g = third q (omega arith)
+      second p e (Off a b) g = tt
+
+      first : (w : To) → Goes 4 w → Fresh (then w (λ p. then (arraysAt t (z .arrays) p) (λ q. then (signaturesAt z t (z .functions) q) (functionsAt z t (z .functions)))))
+      first (At p) e = second p e (arraysAt t (z .arrays) p) (arrays-go (z .arrays) p)
+      first (Off a b) e = tt
+
+  abbrev AnswerFresh : Answer → Type 0
+  AnswerFresh (Reads y) = 1 ≤ z .functions → byte t (signaturePlace z (z .functions - 1) + 3) ≡ 0
+  AnswerFresh (Refused n p) = Unit {0}
+
+  answered-fresh : (w : To) → Fresh w → AnswerFresh (answered z w)
+  answered-fresh (At p) h = h
+  answered-fresh (Off n p) h = tt
+
+  answer-fresh : AnswerFresh (readAt t)
+  unfolding readAt
+  answer-fresh = pick-ind AnswerFresh (ltb 32768 (length t)) (λ _. tt) (λ _. answered-fresh (partsAt z t) parts-fresh)
+
+  -- WHAT READING FOUND OUT
+  pub known : (y : Sizes) → readAt t ≡ Reads y → Known (tableOf t)
+  known y e =
+      let l = read-limits t y e in
+      let some-function : 1 ≤ z .functions = l .1 .some-function in
+      let blocks : Every (tableOf t) reading = λ g k. all-read t y e g k .blocks in
+      let last : entry (tableOf t) < z .functions = omega arith in
+      let status = subst AnswerFresh e answer-fresh some-function in
+      record {
+        some-function = last;
+        fresh = rw status;
+        blocks = blocks;
+        alone = λ f k q. ret-alone (tableOf t) (length t) blocks (touches t y e) f (entry (tableOf t)) k last q;
+        sites = λ f q m k h. scan-called (tableOf t) (length t) blocks (touches t y e) (length t) f q m some-function
+            (subst (λ (g : ℕ). scan (tableOf t .rec) (length t) (length t) (tableOf t .start 0) g q ≡ some m) (home-own (tableOf t) (length t) blocks (touches t y e) (z .functions) f k (omega arith)) h);
+      }

@@ -1,0 +1,1 @@
+// Demand 3 stands in specs/.
