@@ -1,0 +1,151 @@
+//! Text and back.
+
+mod common;
+
+use common::{asm, hex, table_a, table_b};
+use second::asm::{assemble, disassemble};
+use second::gen;
+
+#[test]
+fn tables_a_and_b_as_text() {
+    let head = "sizes 2 1 1
+                array 4
+                signature unknown PP/P unknown SS/P\n";
+    let a = "load r0 a0[r1]
+             load r1 a0[r0]
+             return";
+    let b = "init
+             load r0 a0[r1]
+             protect r0 r0
+             load r1 a0[r0]
+             return";
+    assert_eq!(asm(&format!("{}{}", head, a)), table_a());
+    assert_eq!(asm(&format!("{}{}", head, b)), table_b());
+}
+
+#[test]
+fn every_record() {
+    let text = "
+        sizes 3 2 2
+        array 4
+        array 0x400
+        signature updated PTS/TS unknown SSS/SS
+        signature unknown PPP/PT updated SSX/SP
+        const r0 4294967295
+        add r0 r1 r2
+        sub r0 r1 r2
+        mul r0 r1 r2
+        xor r0 r1 r2
+        and r0 r1 r2
+        or r0 r1 r2
+        less r0 r1 r2
+        equal r0 r1 r2
+        op 9 r0 r1 r2
+        select r0 r1 r2 r0
+        load r0 a1[r2]
+        store a1[r2] r0
+        init
+        update r2 zero
+        update r2 nonzero
+        protect r1 r2
+        return
+        call f0
+        call f0 marked
+        if r1
+          const r1 7
+        else
+          init
+        endif
+        while r2 updated PTS/ST
+          init
+        endwhile
+        hex AB 00 cd
+        return";
+    let bytes = hex("01 03 02 02  02 04 00  02 00 04
+        03 2C 00  01 24 00 00 00 09 00  00 2A 00 00 00 0A 00
+        03 77 00  00 00 00 00 00 04 00  01 3A 00 00 00 02 00
+        10 00 FF FF FF FF
+        11 00 00 01 02  11 00 01 01 02  11 00 02 01 02  11 00 03 01 02
+        11 00 04 01 02  11 00 05 01 02  11 00 06 01 02  11 00 07 01 02
+        11 00 09 01 02
+        12 00 01 02 00
+        13 00 01 02
+        14 01 02 00
+        15
+        16 02 00  16 02 01
+        17 01 02
+        25
+        18 00 00  18 00 01
+        20 01 87 00
+          10 01 07 00 00 00
+        21 8B 00
+          15
+        22
+        23 02 98 00  01 24 00 00 00 06 00
+          15
+        24 8C 00
+        AB 00 CD
+        25");
+    assert_eq!(asm(text), bytes);
+}
+
+#[test]
+fn wrong_places_on_purpose() {
+    let table = asm("sizes 1 0 1
+                     signature unknown P/ unknown P/ @513
+                     if r0 @1027
+                     else @3
+                     endif
+                     while r0 9 P/ @5
+                     endwhile @6
+                     return");
+    let bytes = hex("01 01 00 01  03 01 02  00 00 00 00 00 00 00  00 00 00 00 00 00 00
+                     20 00 03 04  21 03 00  22
+                     23 00 05 00  09 00 00 00 00 00 00  24 06 00  25");
+    assert_eq!(table, bytes);
+}
+
+#[test]
+fn errors() {
+    for text in &[
+        "sizes 1 0",
+        "sizes 1 0 1 1",
+        "sizes 1 0 256",
+        "else",
+        "endif",
+        "endwhile",
+        "if r0",
+        "load r0 r1",
+        "jump r0",
+        "const r0 4294967296",
+        "hex 100",
+        "signature unknown P/ unknown P/",
+        "while r0 unknown Q/",
+        "while r0 unknown PPPPPPPPPPPPPPPPP/",
+    ] {
+        assert!(assemble(text).is_err(), "{}", text);
+    }
+    assert_eq!(assemble("init\n nothing"), Err("line 2: `nothing` is no record".to_string()));
+}
+
+fn round(table: &[u8]) {
+    let text = disassemble(table);
+    assert_eq!(assemble(&text).as_deref(), Ok(table), "{}", text);
+}
+
+#[test]
+fn round_trips() {
+    round(&[]);
+    for seed in 0..500 {
+        let table = gen::good(seed);
+        round(&table);
+        assert!(!disassemble(&table).contains("hex"));
+        round(&gen::mutated(seed));
+        for number in 1..=9 {
+            round(&gen::damaged(number, seed).0);
+        }
+        for number in 10..=14 {
+            round(&gen::spoiled(number, seed).0);
+        }
+    }
+}
