@@ -1,2 +1,3 @@
 pub mod Demand3
 pub mod Examples
+pub mod OneAnswer

@@ -1,0 +1,40 @@
+-- Two permitted answers are equal, for each public function of the library: whatever two programs meet the contract, they answer
+-- alike, and leave every lent word alike. Each premise is that function's contract as it stands in the source, over the values of
+-- its arguments. (message::shown, whose answer is a lent part, has its own: Rattle.message.specs.OneAnswer.)
+use Prim.Native.Nat.{ℕ}
+use mathlib.Core.Path.{_≡_, refl, sym, ap, _∙_}
+use mathlib.Core.List.{List}
+use Rattle.reading.specs.Reading.{readAt}
+use Rattle.reading.specs.declared.Answer.{Answer}
+use Rattle.typing.specs.Check.{checkAt}
+use Rattle.typing.specs.declared.Verdict.{Verdict}
+use Rattle.machine.specs.declared.Outcome.{Outcome}
+use Rattle.machine.specs.Runs.{Ran, ran, runAt}
+
+-- reading::read
+pub one-reading : (t : List ℕ) (a b : Answer) → a ≡ readAt t → b ≡ readAt t → a ≡ b
+one-reading t a b x y = x ∙ sym y
+
+-- typing::check
+pub one-verdict : (t : List ℕ) (a b : Verdict) → a ≡ checkAt t → b ≡ checkAt t → a ≡ b
+one-verdict t a b x y = x ∙ sym y
+
+-- the parts of what a run answers and leaves behind
+abbrev outcomeOf : Ran → Outcome
+outcomeOf (ran a regs mem obs) = a
+
+abbrev regsOf : Ran → List ℕ
+regsOf (ran a regs mem obs) = regs
+
+abbrev memOf : Ran → List ℕ
+memOf (ran a regs mem obs) = mem
+
+abbrev obsOf : Ran → List ℕ
+obsOf (ran a regs mem obs) = obs
+
+-- machine::run: the answer, and registers, memory and observations afterwards
+pub one-run : (t regs mem dirs obs : List ℕ) (a b : Outcome) (regs₁ mem₁ obs₁ regs₂ mem₂ obs₂ : List ℕ)
+    → ran a regs₁ mem₁ obs₁ ≡ runAt t regs mem dirs obs → ran b regs₂ mem₂ obs₂ ≡ runAt t regs mem dirs obs
+    → (a ≡ b) × (regs₁ ≡ regs₂) × (mem₁ ≡ mem₂) × (obs₁ ≡ obs₂)
+one-run t regs mem dirs obs a b regs₁ mem₁ obs₁ regs₂ mem₂ obs₂ x y =
+    (ap outcomeOf (x ∙ sym y), ap regsOf (x ∙ sym y), ap memOf (x ∙ sym y), ap obsOf (x ∙ sym y))
