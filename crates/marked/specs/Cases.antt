@@ -53,8 +53,8 @@ pub data Case : Type 0 where
   stores : (source named other named′ other′ : ℕ) → Case  -- STORE into array 0 beside array 1: levels before and after
   joins : (one other result : Status) → Case
   updates : (register : ℕ) (sense : Bool) (status : Status) (number : ℕ) → Case  -- UPDATE under a status: the fault
-  runs : (table regs mem dirs : List ℕ) (room : ℕ) (answer : Stop) (regs′ mem′ obs′ : List ℕ) → Case      -- a run: what it answers, and what it leaves behind
-  forks : (value : ℕ) (way : Bool) (seen : List ℕ) (mis : Bool) → Case      -- IF on a value under a branch directive
+  runs : (table regs mem dirs : List ℕ) (room : ℕ) (answer : Stop) (regs′ mem′ obs′ : List ℕ) → Case  -- a run: what it answers, and what it leaves behind
+  forks : (value : ℕ) (way : Bool) (seen : List ℕ) (mis : Bool) → Case  -- IF on a value under a branch directive
   calls : (mark : Bool) (out result : Status) → Case  -- the status after a CALL
 
 -- two registers and two arrays: register 1 at level s, the arrays at a and b
@@ -90,9 +90,9 @@ cases =
     writes tableA refused-10-at-28 ∷  -- 1
     writes tableB accepted-1-functions-37-bytes ∷  -- 2
     refuses [] 2 0 ∷  -- 3
-    runs tableB (0 ∷ 1 ∷ []) (3 ∷ 2 ∷ 9 ∷ 7 ∷ []) (96 ∷ 96 ∷ 96 ∷ 96 ∷ []) 14    -- 4
-      (record { number = 21; place = 36; steps = 4; mis = false; masked = false }) (2 ∷ 9 ∷ []) (3 ∷ 2 ∷ 9 ∷ 7 ∷ [])
-      (112 ∷ 114 ∷ 0 ∷ 1 ∷ 0 ∷ 0 ∷ 0 ∷ 112 ∷ 114 ∷ 0 ∷ 2 ∷ 0 ∷ 0 ∷ 0 ∷ []) ∷
+    runs tableB (0 ∷ 1 ∷ []) (3 ∷ 2 ∷ 9 ∷ 7 ∷ []) (96 ∷ 96 ∷ 96 ∷ 96 ∷ []) 14  -- 4
+    (record { number = 21; place = 36; steps = 4; mis = false; masked = false }) (2 ∷ 9 ∷ []) (3 ∷ 2 ∷ 9 ∷ 7 ∷ [])
+    (112 ∷ 114 ∷ 0 ∷ 1 ∷ 0 ∷ 0 ∷ 0 ∷ 112 ∷ 114 ∷ 0 ∷ 2 ∷ 0 ∷ 0 ∷ 0 ∷ []) ∷
     protects 1 0 ∷  -- 5
     protects 2 2 ∷  -- 6
     stores 1 0 0 1 1 ∷  -- 7
