@@ -16,6 +16,7 @@ pub mod Machine
 pub mod Passes
 pub mod Decide
 pub mod Typing
+pub mod OneFault
 pub mod Code
 pub mod Scans
 pub mod Stands

@@ -83,20 +83,20 @@ module _ (t : Table) (R : Rules) (h : ℕ) where
   begins-shut p q E F (Endwhile k) c w = w
   begins-shut p q E F Return c w = w
 
-else-same : (i : Record) (m n : ℕ) → i ≡ Else m → i ≡ Else n → m ≡ n
+pub else-same : (i : Record) (m n : ℕ) → i ≡ Else m → i ≡ Else n → m ≡ n
 else-same i m n e f = cc
 
 module _ (t : Table) (R : Rules) (D : Tests R) (g size : ℕ) (ok : Right R D g) where
-  abbrev walk : ℕ → ℕ → ℕ → R .Env → Walked (R .Env)
+  abbrev pub walk : ℕ → ℕ → ℕ → R .Env → Walked (R .Env)
   walk d k p E = blockWith t R D (instrAt t R D d size) k p E
 
-  abbrev blocks : ℕ → ℕ → ℕ → R .Env → Walked (R .Env)
+  abbrev pub blocks : ℕ → ℕ → ℕ → R .Env → Walked (R .Env)
   blocks d x = inside t R D size d x
 
-  abbrev Block : ℕ → R .Env → ℕ → R .Env → Type 0
+  abbrev pub Block : ℕ → R .Env → ℕ → R .Env → Type 0
   Block p E q F = Types t R g p E q F
 
-  abbrev Faulty : ℕ → R .Env → ℕ → ℕ → Type 0
+  abbrev pub Faulty : ℕ → R .Env → ℕ → ℕ → Type 0
   Faulty p E n k = Faults t R (D .number) g p E n k
 
   -- ---- what an answer says of the block from p to q
@@ -179,10 +179,10 @@ module _ (t : Table) (R : Rules) (D : Tests R) (g size : ℕ) (ok : Right R D g)
           (λ c. while-guard i a (refuted (D .public L r) (ok .public L r) c) refl))
           (λ b. while-arriving i (refuted (D .within E L) (ok .within E L) b) refl)
 
-  below : (e q k : ℕ) → e + 3 ≤ q → q < k → e < k
+  pub below : (e q k : ℕ) → e + 3 ≤ q → q < k → e < k
   below e q k l h = omega arith
 
-  below₁ : (n q k : ℕ) → n + 1 ≤ q → q < k → n < k
+  pub below₁ : (n q k : ℕ) → n + 1 ≤ q → q < k → n < k
   below₁ n q k l h = omega arith
 
   says-right : {p q : ℕ} {u v : Unit {0}} (s : Types t reading g p u q v) → Closes (t .rec q) → q < size → SaysRight p q (nesting t reading s)
@@ -197,7 +197,7 @@ module _ (t : Table) (R : Rules) (D : Tests R) (g size : ℕ) (ok : Right R D g)
       (says-right a (rw j tt) (below e q size (chain-le t (spans t reading z)) l)) (says-right z c l)
 
   -- ---- whatever the rules type, the walk types alike
-  abbrev Complete : ℕ → ℕ → ℕ → Type 0
+  abbrev pub Complete : ℕ → ℕ → ℕ → Type 0
   Complete p q m = (d k : ℕ) (E F : R .Env) → m ≤ d → q < k + p → Block p E q F → walk d k p E ≡ Shut q F
 
   count : (p q m : ℕ) → p ≤ q
@@ -207,7 +207,7 @@ module _ (t : Table) (R : Rules) (D : Tests R) (g size : ℕ) (ok : Right R D g)
   count p q m l h d zero E F u v w = absurd (omega arith)
   count p q m l h d (suc k) E F u v w = rw (instr-at t R D size d p E) (h d k E F u v w)
 
-  blocks-complete : (x p q m : ℕ) → Complete p q m → q < size → (d : ℕ) (E F : R .Env) → suc m ≤ d → Block p E q F → blocks d x p E ≡ Shut q F
+  pub blocks-complete : (x p q m : ℕ) → Complete p q m → q < size → (d : ℕ) (E F : R .Env) → suc m ≤ d → Block p E q F → blocks d x p E ≡ Shut q F
   blocks-complete x p q m h l zero E F u w = absurd (omega arith)
   blocks-complete x p q m h l (suc d) E F u w = h d size E F (omega arith) (omega arith) w
 
@@ -242,7 +242,7 @@ module _ (t : Table) (R : Rules) (D : Tests R) (g size : ℕ) (ok : Right R D g)
           rw (ok .within E (R .loop L₀) .1 f, ok .public (R .loop L₀) r .1 o, blocks-complete p (p + 11) e x A (omega arith) d (R .guarded (R .loop L₀) r true) E₁ (omega arith) a, ok .within E₁ (R .loop L₀) .1 h)
           (Z d k (R .guarded (R .loop L₀) r false) F (omega arith) (omega arith) rest)
 
-  walk-complete : {p q : ℕ} {u v : Unit {0}} (s : Types t reading g p u q v) → Closes (t .rec q) → q < size → Complete p q (nesting t reading s)
+  pub walk-complete : {p q : ℕ} {u v : Unit {0}} (s : Types t reading g p u q v) → Closes (t .rec q) → q < size → Complete p q (nesting t reading s)
   walk-complete (done {p = p}) c l = done-case p c
   walk-complete {q = q} (one {p = p} i n s) c l = one-case p q (nesting t reading s) i (chain-le t (spans t reading s)) c (walk-complete s c l)
   walk-complete {q = q} (branch {p = p} {e = e} {n = n} {r = r} i o a j b k z) c l =
@@ -269,7 +269,7 @@ module _ (t : Table) (R : Rules) (D : Tests R) (g size : ℕ) (ok : Right R D g)
       go (Fault m p) h = on-the-way h
       go (Shut p E) (e, h) = pick-ind Verdict (D .within E (R .leave g))
           (λ b. record { last = E; body = h; returns = s .returns; fits = ok .within E (R .leave g) .0 b })
-          (λ b. at-return E (rw e h) (rw e (s .returns)) (refuted (D .within E (R .leave g)) (ok .within E (R .leave g)) b) refl)
+          (λ b. rw e (at-return E h (s .returns) (refuted (D .within E (R .leave g)) (ok .within E (R .leave g)) b) refl))
 
   abbrev pub Passes : Walked (R .Env) → Type 0
   Passes (Next p E) = ⊥

@@ -7,6 +7,7 @@ use mathlib.Core.List.{List}
 use lib.ListN.{length}
 use Rattle.model.specs.Rules.{typing, Typed}
 use Rattle.model.specs.Faults.{FirstFault}
+use Rattle.model.specs.OneFault.{one-fault, typed-faultless}
 use Rattle.model.specs.Decide.{numberOf}
 use Rattle.model.specs.Typing.{typeAll, Says, type-says, passes-typed}
 use Rattle.model.specs.declared.Sizes.{Sizes}
@@ -35,6 +36,15 @@ pub data Refusal (t : List ℕ) (n p : ℕ) : Type 0 where
 abbrev pub Means : List ℕ → Verdict → Type 0
 Means t (Accepted f b) = Readable t × Typed (tableOf t) × (f ≡ sizesOf t .functions) × (b ≡ length t)
 Means t (Refused n p) = Refusal t n p
+
+-- the number and the place of a reading's fault
+abbrev numberIn : Answer → ℕ
+numberIn (Reads z) = 0
+numberIn (Unread n p) = n
+
+abbrev placeIn : Answer → ℕ
+placeIn (Reads z) = 0
+placeIn (Unread n p) = p
 
 module _ (t : List ℕ) where
   typed-means : Readable t → (w : Typing) → Says (tableOf t) (suc (length t)) w → Means t (typed (sizesOf t) t w)
@@ -68,3 +78,27 @@ module _ (t : List ℕ) where
   -- A TABLE PASSES EXACTLY WHEN IT READS AND THE RULES TYPE EVERY FUNCTION OF IT
   pub passes-exactly : Pass (checkAt t) ↔ (Readable t × Typed (tableOf t))
   passes-exactly = (λ h. pass-means (checkAt t) check-means h, λ w. pass-all (w .0) (w .1))
+
+  not-both : (n p : ℕ) → Readable t → readAt t ≡ Unread n p → ⊥
+  not-both n p r e = subst IsRead (sym r ∙ e) tt
+    where
+      IsRead : Answer → Type 0
+      IsRead (Reads y) = Unit {0}
+      IsRead (Unread m q) = ⊥
+
+  refusal-one : (n p m q : ℕ) → Refusal t n p → Refusal t m q → (n ≡ m) × (p ≡ q)
+  refusal-one n p m q (unread e) (unread f) = let h = sym e ∙ f in (ap numberIn h, ap placeIn h)
+  refusal-one n p m q (unread e) (untyped r f) = absurd (not-both n p r e)
+  refusal-one n p m q (untyped r f) (unread e) = absurd (not-both m q r e)
+  refusal-one n p m q (untyped r f) (untyped _ h) = one-fault (tableOf t) (suc (length t)) (all-read t (sizesOf t) r) n p m q f h
+
+  accepted-or-refused : (n p : ℕ) → Readable t → Typed (tableOf t) → Refusal t n p → ⊥
+  accepted-or-refused n p r d (unread e) = not-both n p r e
+  accepted-or-refused n p r d (untyped _ f) = typed-faultless (tableOf t) (suc (length t)) (all-read t (sizesOf t) r) n p d f
+
+  -- ONLY ONE VERDICT MEANS WHAT IT SAYS: the words above fix number and place, without the checker
+  pub means-one : (v w : Verdict) → Means t v → Means t w → v ≡ w
+  means-one (Accepted f b) (Accepted g c) (_, _, e₁, e₂) (_, _, h₁, h₂) = rw (e₁, e₂, h₁, h₂) refl
+  means-one (Accepted f b) (Refused n p) (r, d, _, _) h = absurd (accepted-or-refused n p r d h)
+  means-one (Refused n p) (Accepted f b) h (r, d, _, _) = absurd (accepted-or-refused n p r d h)
+  means-one (Refused n p) (Refused m q) h k = let e = refusal-one n p m q h k in rw (e .0, e .1) refl
