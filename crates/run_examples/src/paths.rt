@@ -7,7 +7,7 @@ use crate::tables::calls_twice;
 use crate::tables::one;
 
 // IF 0, with PROTECT 1 := 0 in its first block and UPDATE (0, 0) in its second.
-pub fn of_branches() {
+pub(crate) fn of_branches() {
     let code = &[32, 0, 31, 0, 23, 1, 0, 33, 37, 0, 22, 0, 0, 34, 37];
     case(b"IF on 2, the right way");
     one(code, 2, 5, &[97, 1, 96, 96], 6);
@@ -26,7 +26,7 @@ pub fn of_branches() {
 }
 
 // IF 0, with INIT in its first block: 20 before 23 before 22 and 26.
-pub fn of_inits() {
+pub(crate) fn of_inits() {
     let code = &[32, 0, 29, 0, 21, 33, 32, 0, 34, 37];
     case(b"stop 23: INIT while misspeculating");
     one(code, 0, 0, &[97, 1, 96], 6);
@@ -39,7 +39,7 @@ pub fn of_inits() {
 }
 
 // UPDATE, PROTECT and INIT.
-pub fn of_the_flag() {
+pub(crate) fn of_the_flag() {
     // IF 0, in its first block UPDATE (0, 1) and PROTECT 1 := 1
     let code = &[32, 0, 34, 0, 22, 0, 1, 23, 1, 1, 33, 37, 0, 34, 37];
     case(b"UPDATE and PROTECT, the wrong way");
@@ -59,7 +59,7 @@ pub fn of_the_flag() {
 }
 
 // WHILE 1, with OP 1 := 1 - 0 as its body.
-pub fn of_loops() {
+pub(crate) fn of_loops() {
     let mut code = [0u8; 20];
     tables::put(&mut code, 0, &[35, 1, 40]);
     tables::put(&mut code, 11, &[17, 1, 1, 1, 0, 36, 24, 0, 37]);
@@ -77,7 +77,7 @@ pub fn of_loops() {
 }
 
 // Returns, right and wrong.
-pub fn of_returns() {
+pub(crate) fn of_returns() {
     case(b"CALL and its right return");
     calls(&[96, 96, 99, 71, 0], 4);
     let mut list = [96u8; 22];
@@ -102,7 +102,7 @@ pub fn of_returns() {
 }
 
 // Stops at CALL and RETURN.
-pub fn of_calls() {
+pub(crate) fn of_calls() {
     case(b"stop 25: after a CALL of another function");
     calls(&[96, 96, 99, 74, 0], 4);
     case(b"stop 25: after no CALL");
@@ -136,7 +136,8 @@ fn ops(left: u32, right: u32) {
     show::run_in(tables::first(&t, n), &mut regs, &mut [], &list, 10);
 }
 
-pub fn of_ops() {
+// Every op, SELECT and CONST, on values at the edges of a word.
+pub(crate) fn of_ops() {
     case(b"ops on 12 and 10");
     ops(12, 10);
     case(b"ops on 10 and 12");

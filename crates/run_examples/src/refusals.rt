@@ -5,7 +5,7 @@ use crate::tables;
 use crate::tables::one;
 
 // The reading, 2 to 4.
-pub fn of_tables() {
+pub(crate) fn of_tables() {
     case(b"refusal 2: the empty table");
     tables::whole(&[]);
     // table A without its RETURN
@@ -26,7 +26,7 @@ pub fn of_tables() {
 }
 
 // The reading, 5 and 7 to 9.
-pub fn of_places() {
+pub(crate) fn of_places() {
     // the signature says that the function starts at 25
     case(b"refusal 5: start place");
     signed(25, 0);
@@ -62,7 +62,8 @@ fn lent(regs: &mut [u32], mem: &mut [u32], dirs: &[u8]) {
     show::run_in(&b, regs, mem, dirs, 14);
 }
 
-pub fn of_lengths() {
+// Registers and memory that are not of the table's sizes.
+pub(crate) fn of_lengths() {
     case(b"refusal 15: 3 registers for 2");
     lent(&mut [0, 1, 2], &mut [3, 2, 9, 7], &[96, 96, 96, 96]);
     case(b"refusal 15: 1 register for 2");
@@ -80,7 +81,7 @@ pub fn of_lengths() {
 }
 
 // The directive list, 16.
-pub fn of_lists() {
+pub(crate) fn of_lists() {
     case(b"refusal 16: unknown kind");
     one(&[21, 37], 0, 1, &[96, 100], 4);
     case(b"refusal 16: a stray access cut short");

@@ -76,7 +76,7 @@ fn ending(o: Outcome) {
 }
 
 // The line that starts a case.
-pub fn case(name: &[u8]) {
+pub(crate) fn case(name: &[u8]) {
     io::write_all(1, name);
     ended();
 }
@@ -96,7 +96,7 @@ fn run(t: &[u8], regs: &mut [u32], mem: &mut [u32], dirs: &[u8], obs: &mut [u8])
 }
 
 // Runs a table with room for so many observation bytes, each 255 before.
-pub fn run_in(t: &[u8], regs: &mut [u32], mem: &mut [u32], dirs: &[u8], room: usize) {
+pub(crate) fn run_in(t: &[u8], regs: &mut [u32], mem: &mut [u32], dirs: &[u8], room: usize) {
     let mut obs = [255u8; 64];
     if room <= 64 {
         run(t, regs, mem, dirs, &mut obs[..room]);

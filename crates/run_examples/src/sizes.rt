@@ -103,7 +103,8 @@ fn chain(list: usize) {
     show::run_in(table, &mut [6], &mut [], tables::first(&d, list), 64);
 }
 
-pub fn all() {
+// Tables and runs at a limit, and just past it.
+pub(crate) fn all() {
     case(b"length 32,768");
     filled(&[21, 37]);
     case(b"refusal 1: length 32,769");

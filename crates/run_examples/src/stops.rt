@@ -4,7 +4,7 @@ use crate::tables::one;
 use crate::tables::two;
 
 // Table B of document 01, case 4.
-pub fn of_table_b() {
+pub(crate) fn of_table_b() {
     let code = &[21, 19, 0, 0, 1, 23, 0, 0, 19, 1, 0, 0, 37];
     case(b"table B, room 14");
     one(code, 0, 1, &[96, 96, 96, 96], 14);
@@ -32,7 +32,7 @@ pub fn of_table_b() {
 }
 
 // On the right path.
-pub fn of_indices() {
+pub(crate) fn of_indices() {
     // LOAD 0 := array 0 at register 1
     case(b"LOAD of index 3 in an array of 4");
     one(&[19, 0, 0, 1, 37], 5, 3, &[96], 8);
@@ -60,7 +60,7 @@ pub fn of_indices() {
 }
 
 // IF 0, in its first block LOAD 1 := array 0 at register 1; register 0 is 0 and the directive goes in.
-pub fn of_stray_loads() {
+pub(crate) fn of_stray_loads() {
     let code = &[32, 0, 32, 0, 19, 1, 0, 1, 33, 35, 0, 34, 37];
     case(b"stray LOAD of index 4");
     one(code, 0, 4, &[97, 1, 98, 0, 2, 0, 96], 12);
@@ -82,7 +82,7 @@ pub fn of_stray_loads() {
 }
 
 // IF 0, in its first block STORE array 0 at register 1 := 2; arrays of 4 and 3 words.
-pub fn of_stray_stores() {
+pub(crate) fn of_stray_stores() {
     let code = &[32, 0, 35, 0, 20, 0, 1, 2, 33, 38, 0, 34, 37];
     case(b"stray STORE into array 1");
     two(code, 0, 4294967295, 77, &[97, 1, 98, 1, 2, 0, 96], 12);

@@ -11,7 +11,7 @@ fn put_one(t: &mut [u8], at: usize, b: u8) -> usize {
 }
 
 // Writes bytes from a place on, as far as there is room; the place after them.
-pub fn put(t: &mut [u8], at: usize, bytes: &[u8]) -> usize {
+pub(crate) fn put(t: &mut [u8], at: usize, bytes: &[u8]) -> usize {
     let mut p = at;
     let mut i = 0;
     while i < bytes.len() {
@@ -22,7 +22,7 @@ pub fn put(t: &mut [u8], at: usize, bytes: &[u8]) -> usize {
 }
 
 // The same bytes so many times, one after the other.
-pub fn repeat(t: &mut [u8], at: usize, bytes: &[u8], n: usize) -> usize {
+pub(crate) fn repeat(t: &mut [u8], at: usize, bytes: &[u8], n: usize) -> usize {
     let mut p = at;
     let mut i = 0;
     while i < n {
@@ -33,18 +33,18 @@ pub fn repeat(t: &mut [u8], at: usize, bytes: &[u8], n: usize) -> usize {
 }
 
 // The first n bytes, or all where there are fewer.
-pub fn first(s: &[u8], n: usize) -> &[u8] {
+pub(crate) fn first(s: &[u8], n: usize) -> &[u8] {
     if n <= s.len() { &s[..n] } else { s }
 }
 
 // The head of tables A and B: 2 registers, an array of 4 words, a function that starts at 24.
-pub fn head(t: &mut [u8]) -> usize {
+pub(crate) fn head(t: &mut [u8]) -> usize {
     let a = put(t, 0, &[1, 2, 1, 1, 2, 4, 0]);
     put(t, a, &[3, 24, 0, 0, 0, 0, 0, 0, 0, 0, 0, 10, 0, 0, 0, 0, 0])
 }
 
 // A signature record: its start place, below 256, and zeros.
-pub fn signature(t: &mut [u8], at: usize, start: u8) -> usize {
+pub(crate) fn signature(t: &mut [u8], at: usize, start: u8) -> usize {
     put(
         t,
         at,
@@ -67,12 +67,12 @@ fn head_three(t: &mut [u8], start0: u8, start1: u8, start2: u8) -> usize {
 }
 
 // A whole table, over 2 registers and 4 words, with a plain directive.
-pub fn whole(t: &[u8]) {
+pub(crate) fn whole(t: &[u8]) {
     show::run_in(t, &mut [0, 1], &mut [3, 2, 9, 7], &[96], 4);
 }
 
 // Code after the head of table A.
-pub fn one(code: &[u8], r0: u32, r1: u32, dirs: &[u8], room: usize) {
+pub(crate) fn one(code: &[u8], r0: u32, r1: u32, dirs: &[u8], room: usize) {
     let mut t = [0u8; 128];
     let a = head(&mut t);
     let n = put(&mut t, a, code);
@@ -81,7 +81,7 @@ pub fn one(code: &[u8], r0: u32, r1: u32, dirs: &[u8], room: usize) {
 }
 
 // Code after the head with two arrays.
-pub fn two(code: &[u8], r0: u32, r1: u32, r2: u32, dirs: &[u8], room: usize) {
+pub(crate) fn two(code: &[u8], r0: u32, r1: u32, r2: u32, dirs: &[u8], room: usize) {
     let mut t = [0u8; 128];
     let a = head_two(&mut t);
     let n = put(&mut t, a, code);
@@ -92,7 +92,7 @@ pub fn two(code: &[u8], r0: u32, r1: u32, r2: u32, dirs: &[u8], room: usize) {
 
 // Function 0, at 55: OP 0 := 0 + 1. Function 1, at 61: marked CALL 0, PROTECT 1 := 0. The entry, at 68: CALL 0, CALL 1,
 // PROTECT 1 := 0. After the CALLs of 0 are the places 64 (marked) and 71, after the CALL of 1 is 74.
-pub fn calls(dirs: &[u8], room: usize) {
+pub(crate) fn calls(dirs: &[u8], room: usize) {
     let mut t = [0u8; 128];
     let a = head_three(&mut t, 55, 61, 68);
     let b = put(&mut t, a, &[17, 0, 0, 0, 1, 37]);
@@ -103,7 +103,7 @@ pub fn calls(dirs: &[u8], room: usize) {
 
 // Function 0, at 55: nothing. Function 1, at 56: CALL 0, CALL 0. The entry, at 63: marked CALL 1, PROTECT 1 := 0. After the
 // CALLs of 0 are the places 59 and 62, after the CALL of 1 is 66.
-pub fn calls_twice(dirs: &[u8], room: usize) {
+pub(crate) fn calls_twice(dirs: &[u8], room: usize) {
     let mut t = [0u8; 128];
     let a = head_three(&mut t, 55, 56, 63);
     let b = put(&mut t, a, &[37]);
