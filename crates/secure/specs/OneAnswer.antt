@@ -1,6 +1,8 @@
--- Two permitted answers are equal, for each public function of the library: whatever two programs meet the contract, they answer
--- alike, and leave every lent word alike. Each premise is that function's contract as it stands in the source, over the values of
--- its arguments. (message::shown, whose answer is a lent part, has its own: Rattle.message.specs.OneAnswer.)
+-- Two permitted answers are equal: whatever two programs meet a contract, they answer alike, and leave every lent word alike. Each
+-- premise is that function's contract as it stands in the source, over the values of its arguments. Here are the library's three main
+-- functions. message::shown, whose answer is a lent part, has its own (Rattle.message.specs.OneAnswer). The contracts of the other public
+-- functions (format's, message::part_of, report::verdict_line) are equations between each part of the answer, or a lent slice
+-- afterwards, and a value that the arguments fix: one-of is for each such part.
 use Prim.Native.Nat.{ℕ}
 use mathlib.Core.Path.{_≡_, refl, sym, ap, _∙_}
 use mathlib.Core.List.{List}
@@ -11,13 +13,17 @@ use Rattle.typing.specs.declared.Verdict.{Verdict}
 use Rattle.machine.specs.declared.Outcome.{Outcome}
 use Rattle.machine.specs.Runs.{Ran, ran, runAt}
 
+-- an answer, or a lent slice afterwards, that a contract equates with a value
+pub one-of : {A : Type 0} (value a b : A) → a ≡ value → b ≡ value → a ≡ b
+one-of value a b x y = x ∙ sym y
+
 -- reading::read
 pub one-reading : (t : List ℕ) (a b : Answer) → a ≡ readAt t → b ≡ readAt t → a ≡ b
-one-reading t a b x y = x ∙ sym y
+one-reading t a b = one-of (readAt t) a b
 
 -- typing::check
 pub one-verdict : (t : List ℕ) (a b : Verdict) → a ≡ checkAt t → b ≡ checkAt t → a ≡ b
-one-verdict t a b x y = x ∙ sym y
+one-verdict t a b = one-of (checkAt t) a b
 
 -- the parts of what a run answers and leaves behind
 abbrev outcomeOf : Ran → Outcome
