@@ -1,0 +1,34 @@
+-- The answers as numbers, for programs in other languages: document 01's number and values for each case.
+use Prim.Native.Nat.{ℕ}
+use mathlib.Core.List.{List, [], _∷_}
+use Rattle.model.specs.Tests.{pick}
+use Rattle.typing.specs.declared.Verdict.{Verdict}
+use Rattle.typing.specs.declared.Verdict.the-variants.{Accepted, Refused}
+use Rattle.message.specs.declared.Part.{Part}
+use Rattle.message.specs.declared.Part.the-variants.{Table, List as Directives}
+use Rattle.machine.specs.declared.Stop.{Stop}
+use Rattle.machine.specs.declared.Outcome.{Outcome}
+use Rattle.machine.specs.declared.Outcome.the-variants.{Refused as Unrun, Stopped}
+use Rattle.machine.specs.Runs.{Ran, ran}
+
+-- number (0: the table passes), place, functions
+abbrev pub verdictNumbers : Verdict → List ℕ
+verdictNumbers (Accepted functions bytes) = 0 ∷ 0 ∷ functions ∷ []
+verdictNumbers (Refused n p) = n ∷ p ∷ 0 ∷ []
+
+-- which slice (0: the table, 1: the list), start, count
+abbrev pub partNumbers : Part → List ℕ
+partNumbers (Table a k) = 0 ∷ a ∷ k ∷ []
+partNumbers (Directives a k) = 1 ∷ a ∷ k ∷ []
+
+-- number, place, steps, misspeculating, masked
+abbrev pub outcomeNumbers : Outcome → List ℕ
+outcomeNumbers (Unrun n p) = n ∷ p ∷ 0 ∷ 0 ∷ 0 ∷ []
+outcomeNumbers (Stopped s) = s .number ∷ s .place ∷ s .steps ∷ pick (s .mis) 1 0 ∷ pick (s .masked) 1 0 ∷ []
+
+-- the answer, and registers, memory and observations afterwards
+pub data Left : Type 0 where
+  left : (answer regs mem obs : List ℕ) → Left
+
+abbrev pub leftOf : Ran → Left
+leftOf (ran o regs mem obs) = left (outcomeNumbers o) regs mem obs
