@@ -193,5 +193,5 @@ module _ (t : List ℕ) (z : Sizes) (e : readAt t ≡ Reads z) where
               ∙ ap (ranFrom (a .obs) seen n) (run-went (tableWith z t) (m .dir) (directivesFrom (d .0) dirs (m .next)) (length (a .obs) - seen) (ctlOf s) (ctlOf (r .state)) (dataOf s (a .regs) (a .mem)) (dataOf (r .state) (b .regs) (b .mem)) (w .saw) (m .going) (w .stepped) (w .room))
               ∙ ran-observed (a .obs) seen n (w .saw) (run (tableWith z t) (directivesFrom (d .0) dirs (m .next)) (length (a .obs) - seen - size (w .saw)) (ctlOf (r .state)) (dataOf (r .state) (b .regs) (b .mem)))
               ∙ four (λ o p q k. ranFrom o p (n + 1) (run (tableWith z t) (directivesFrom (d .0) dirs k) q (ctlOf (r .state)) (dataOf (r .state) (b .regs) (b .mem))))
-              (sym (w .wrote)) (sym (w .seen′)) rooms (sym (w .at));
+              (sym (w .wrote)) (sym (w .seen′)) rooms (sym (m .at′));
         }

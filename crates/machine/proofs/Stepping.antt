@@ -20,12 +20,13 @@ use Rattle.reading.specs.Known.{known}
 use Rattle.reading.specs.declared.Answer.the-variants.{Reads}
 use Rattle.machine.specs.declared.State.{State}
 use Rattle.machine.specs.declared.Plan.{Plan}
+use Rattle.machine.specs.declared.Acted.{Acted}
 use Rattle.machine.specs.declared.Turn.{Turn}
 use Rattle.machine.specs.declared.Told.the-variants.{Got, Bad}
 use Rattle.machine.specs.Directives.{directiveAt, directivesFrom, bytesOf}
 use Rattle.machine.specs.States.{words, ctlOf, dataOf, applied, viewPlan}
 use Rattle.machine.specs.Runs.{total, ranFrom}
-use Rattle.machine.specs.Turns.{Lent, lent, Ready, ActMoves, ActHalts, TurnMoves, TurnHalts}
+use Rattle.machine.specs.Turns.{Lent, lent, actedOf, Ready, Acts, Turns}
 use Rattle.machine.proofs.Going.{directives-end, directives-bad, directives-on, run-ended, run-used, run-step, Going, StandsAt, own-sizes}
 use Rattle.machine.specs.Everywhere.{start-stands}
 
@@ -36,13 +37,9 @@ module _ (z : Sizes) (t : List ℕ) (s : State) where
   abbrev here : Lent → Data
   here a = dataOf s (a .regs) (a .mem)
 
-  -- what act's contract asks
-  abbrev pub Acts : Directive → ℕ → ℕ → Lent → Turn → Lent → Type 0
-  Acts dir next seen a r b = (r .stop ≡ 0 → ActMoves z t s dir next seen a r b) × ((r .stop ≡ 0 → ⊥) → ActHalts z t s dir seen a r b)
-
-  module _ (dir : Directive) (next seen : ℕ) (a : Lent) (p : Plan) (r : Turn) (planned : viewPlan T p (here a) ≡ step T (ctlOf s) dir (here a)) where
+  module _ (dir : Directive) (seen : ℕ) (a : Lent) (p : Plan) (r : Acted) (planned : viewPlan T p (here a) ≡ step T (ctlOf s) dir (here a)) where
     -- a stop of the step's own
-    pub act-stops : (p .stop ≡ 0 → ⊥) → r .stop ≡ p .stop → r .state ≡ s → Acts dir next seen a r a
+    pub act-stops : (p .stop ≡ 0 → ⊥) → r .stop ≡ p .stop → r .state ≡ s → Acts z t s dir seen a r a
     act-stops n e st = (
       λ q. absurd (n (sym e ∙ q)),
       λ _. record {
@@ -56,7 +53,7 @@ module _ (z : Sizes) (t : List ℕ) (s : State) where
     went e = sym planned ∙ rw (eq-eqb (p .stop) 0 e)
 
     -- no room
-    pub act-full : p .stop ≡ 0 → length (a .obs) - seen < size (p .seen) → r .stop ≡ 26 → r .state ≡ s → Acts dir next seen a r a
+    pub act-full : p .stop ≡ 0 → length (a .obs) - seen < size (p .seen) → r .stop ≡ 26 → r .state ≡ s → Acts z t s dir seen a r a
     act-full e l k st = (
       λ q. absurd (omega arith),
       λ _. record {
@@ -69,22 +66,17 @@ module _ (z : Sizes) (t : List ℕ) (s : State) where
     -- the step is made
     pub act-goes : (regs mem obs : List ℕ) → p .stop ≡ 0 → size (p .seen) ≤ length (a .obs) - seen
         → ((m : Bool) → words regs mem m ≡ applied T (p .effect) (words (a .regs) (a .mem) m)) → obs ≡ sets (a .obs) seen (bytesOf (p .seen))
-        → r .stop ≡ 0 → r .state ≡ p .state → r .at ≡ next → r .seen ≡ seen + size (p .seen) → Acts dir next seen a r (lent regs mem obs)
-    act-goes regs mem obs e l w o k st at sn = (
+        → r .stop ≡ 0 → r .state ≡ p .state → r .seen ≡ seen + size (p .seen) → Acts z t s dir seen a r (lent regs mem obs)
+    act-goes regs mem obs e l w o k st sn = (
       λ _. record {
         saw = p .seen;
         stepped = went e ∙ rw (← (w (s .masked)), ← st);
         room = l;
         wrote = o;
-        at = at;
         seen′ = sn;
       },
       λ n. absurd (n k),
     )
-
-  -- what one_turn's contract asks
-  abbrev pub Turned : List ℕ → ℕ → ℕ → Lent → Turn → Lent → Type 0
-  Turned dirs at seen a r b = (r .stop ≡ 0 → TurnMoves z t s dirs at seen a r b) × ((r .stop ≡ 0 → ⊥) → TurnHalts z t s dirs at seen a r b)
 
   module _ (dirs : List ℕ) (at seen : ℕ) (a : Lent) (ready : Ready z t s (a .mem)) where
     over : s .place ≡ length t - 1 → ended T (ctlOf s) ≡ true
@@ -94,7 +86,7 @@ module _ (z : Sizes) (t : List ℕ) (s : State) where
     not-over n = ne-eqb (s .place) (T .ret (entry T)) (λ e. n (e ∙ ready .last))
 
     -- 21
-    pub turn-over : (r : Turn) → s .place ≡ length t - 1 → r .stop ≡ 21 → r .state ≡ s → Turned dirs at seen a r a
+    pub turn-over : (r : Turn) → s .place ≡ length t - 1 → r .stop ≡ 21 → r .state ≡ s → Turns z t s dirs at seen a r a
     turn-over r e k st = (
       λ q. absurd (omega arith),
       λ _. record {
@@ -104,7 +96,7 @@ module _ (z : Sizes) (t : List ℕ) (s : State) where
       },
     )
 
-    used : (r : Turn) → (s .place ≡ length t - 1 → ⊥) → ((j : ℕ) → directivesFrom j dirs at ≡ []) → r .stop ≡ 20 → r .state ≡ s → Turned dirs at seen a r a
+    used : (r : Turn) → (s .place ≡ length t - 1 → ⊥) → ((j : ℕ) → directivesFrom j dirs at ≡ []) → r .stop ≡ 20 → r .state ≡ s → Turns z t s dirs at seen a r a
     used r n d k st = (
       λ q. absurd (omega arith),
       λ _. record {
@@ -115,20 +107,20 @@ module _ (z : Sizes) (t : List ℕ) (s : State) where
     )
 
     -- 20: the list is used up; or from here on it does not read, which it does where it was tested before the first step
-    pub turn-used : (r : Turn) → (s .place ≡ length t - 1 → ⊥) → length dirs ≤ at → r .stop ≡ 20 → r .state ≡ s → Turned dirs at seen a r a
+    pub turn-used : (r : Turn) → (s .place ≡ length t - 1 → ⊥) → length dirs ≤ at → r .stop ≡ 20 → r .state ≡ s → Turns z t s dirs at seen a r a
     turn-used r n l = used r n (λ j. directives-end j dirs at l)
 
-    pub turn-bad : (r : Turn) → (s .place ≡ length t - 1 → ⊥) → at < length dirs → directiveAt dirs at ≡ Bad → r .stop ≡ 20 → r .state ≡ s → Turned dirs at seen a r a
+    pub turn-bad : (r : Turn) → (s .place ≡ length t - 1 → ⊥) → at < length dirs → directiveAt dirs at ≡ Bad → r .stop ≡ 20 → r .state ≡ s → Turns z t s dirs at seen a r a
     turn-bad r n l b = used r n (λ j. directives-bad j dirs at l b)
 
     -- the step
-    pub turn-acts : (dir : Directive) (next : ℕ) (r : Turn) (b : Lent) → (s .place ≡ length t - 1 → ⊥) → at < length dirs → directiveAt dirs at ≡ Got dir next → Acts dir next seen a r b → Turned dirs at seen a r b
-    turn-acts dir next r b n l g w = (
-      λ k. record { dir = dir; next = next; going = not-over n; inside = l; told = g; acts = w .0 k },
+    pub turn-acts : (dir : Directive) (next : ℕ) (r : Turn) (b : Lent) → r .at ≡ next → (s .place ≡ length t - 1 → ⊥) → at < length dirs → directiveAt dirs at ≡ Got dir next → Acts z t s dir seen a (actedOf r) b → Turns z t s dirs at seen a r b
+    turn-acts dir next r b e n l g w = (
+      λ k. record { dir = dir; next = next; going = not-over n; inside = l; told = g; at′ = e; acts = w .0 k },
       λ k. let h = w .1 k in record {
         stays = h .stays;
         kept = h .kept;
-        stopped = λ j e. let d = directives-on j dirs at next dir e l g in
+        stopped = λ j f. let d = directives-on j dirs at next dir f l g in
             ap (λ (ds : List Directive). run T ds (length (a .obs) - seen) (ctlOf s) (here a)) (d .2)
             ∙ run-step T dir (directivesFrom (d .0) dirs next) (length (a .obs) - seen) (ctlOf s) (here a) (not-over n)
             ∙ h .stopped (run T (directivesFrom (d .0) dirs next));

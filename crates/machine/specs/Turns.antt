@@ -12,6 +12,7 @@ use Rattle.model.specs.declared.Directive.{Directive}
 use Rattle.model.specs.declared.Observation.{Observation}
 use Rattle.format.specs.Layout.{wordsFrom, tableWith}
 use Rattle.machine.specs.declared.State.{State}
+use Rattle.machine.specs.declared.Acted.{Acted}
 use Rattle.machine.specs.declared.Turn.{Turn}
 use Rattle.machine.specs.declared.Told.the-variants.{Got}
 use Rattle.machine.specs.Directives.{directiveAt, directivesFrom, bytesOf}
@@ -33,23 +34,30 @@ pub record Ready (z : Sizes) (t : List ℕ) (s : State) (mem : List ℕ) : Type 
   pub long : length mem ≡ total (wordsFrom z t (z .arrays) 0)
   pub last : (tableWith z t) .ret (entry (tableWith z t)) ≡ length t - 1
 
+-- a turn without the next directive's place
+abbrev pub actedOf : Turn → Acted
+actedOf r = record { stop = r .stop; state = r .state; seen = r .seen }
+
 module _ (z : Sizes) (t : List ℕ) (s : State) where
   -- the step was made, under dir
-  pub record ActMoves (dir : Directive) (next seen : ℕ) (a : Lent) (r : Turn) (b : Lent) : Type 0 where
+  pub record ActMoves (dir : Directive) (seen : ℕ) (a : Lent) (r : Acted) (b : Lent) : Type 0 where
     pub saw : Observation
     pub stepped : step (tableWith z t) (ctlOf s) dir (dataOf s (a .regs) (a .mem)) ≡ Went (ctlOf (r .state)) (dataOf (r .state) (b .regs) (b .mem)) saw
     pub room : size saw ≤ length (a .obs) - seen
     pub wrote : b .obs ≡ sets (a .obs) seen (bytesOf saw)
-    pub at : r .at ≡ next
     pub seen′ : r .seen ≡ seen + size saw
 
   -- no step was made: a stop of the step's own, or 26
-  pub record ActHalts (dir : Directive) (seen : ℕ) (a : Lent) (r : Turn) (b : Lent) : Type 0 where
+  pub record ActHalts (dir : Directive) (seen : ℕ) (a : Lent) (r : Acted) (b : Lent) : Type 0 where
     pub stays : r .state ≡ s
     pub kept : a ≡ b
     pub stopped : (f : ℕ → Ctl → Data → Final)
         → afterStep (step (tableWith z t) (ctlOf s) dir (dataOf s (a .regs) (a .mem))) (length (a .obs) - seen) (ctlOf s) (dataOf s (a .regs) (a .mem)) f
         ≡ final (r .stop) 0 (ctlOf s) (dataOf s (a .regs) (a .mem)) []
+
+  -- stop is 0 exactly where the step was made
+  abbrev pub Acts : Directive → ℕ → Lent → Acted → Lent → Type 0
+  Acts dir seen a r b = (r .stop ≡ 0 → ActMoves dir seen a r b) × ((r .stop ≡ 0 → ⊥) → ActHalts dir seen a r b)
 
   pub record TurnMoves (dirs : List ℕ) (at seen : ℕ) (a : Lent) (r : Turn) (b : Lent) : Type 0 where
     pub dir : Directive
@@ -57,7 +65,8 @@ module _ (z : Sizes) (t : List ℕ) (s : State) where
     pub going : ended (tableWith z t) (ctlOf s) ≡ false
     pub inside : at < length dirs
     pub told : directiveAt dirs at ≡ Got dir next
-    pub acts : ActMoves dir next seen a r b
+    pub at′ : r .at ≡ next
+    pub acts : ActMoves dir seen a (actedOf r) b
 
   -- the run ends here
   pub record TurnHalts (dirs : List ℕ) (at seen : ℕ) (a : Lent) (r : Turn) (b : Lent) : Type 0 where
@@ -66,3 +75,6 @@ module _ (z : Sizes) (t : List ℕ) (s : State) where
     pub stopped : (k : ℕ) → length dirs - at ≤ k
         → run (tableWith z t) (directivesFrom k dirs at) (length (a .obs) - seen) (ctlOf s) (dataOf s (a .regs) (a .mem))
         ≡ final (r .stop) 0 (ctlOf s) (dataOf s (a .regs) (a .mem)) []
+
+  abbrev pub Turns : List ℕ → ℕ → ℕ → Lent → Turn → Lent → Type 0
+  Turns dirs at seen a r b = (r .stop ≡ 0 → TurnMoves dirs at seen a r b) × ((r .stop ≡ 0 → ⊥) → TurnHalts dirs at seen a r b)

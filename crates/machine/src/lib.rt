@@ -53,7 +53,14 @@ pub enum Site {
     Nowhere,
 }
 
-// One turn: stop is 0 where a step was made. Then the state after it, the next directive's place, the bytes observed.
+// What the step under one directive did: stop is 0 where it was made. Then the state after it, and the bytes observed.
+pub struct Acted {
+    pub stop: u8,
+    pub state: State,
+    pub seen: usize,
+}
+
+// One turn: the same, with the next directive's place.
 pub struct Turn {
     pub stop: u8,
     pub state: State,

@@ -1,5 +1,6 @@
 // The run's steps: each uses one directive and writes one observation, until a stop. Tested in the order 21, 20, 23, 24, 22,
 // 25, 26, before anything changes: a plan is made first, and room for its observation looked for, before it is carried out.
+use crate::Acted;
 use crate::Outcome;
 use crate::State;
 use crate::Stop;
@@ -23,7 +24,13 @@ ghost use Rattle.format.specs.Layout.{wordsFrom, tableWith};
 ghost use Rattle.machine.specs.States.{ctlOf};
 ghost use Rattle.model.specs.Machine.{startCtl};
 ghost use Rattle.machine.specs.Runs.{ran, total, started};
-ghost use Rattle.machine.specs.Turns.{lent, TurnMoves, TurnHalts, ActMoves, ActHalts, Ready};
+ghost use Rattle.machine.specs.Turns.{lent, Acts, Turns, Ready};
+
+fn halted(stop: u8, state: State, seen: usize) -> Acted
+    ensures { λ r. ⌜ (r .stop ≡ stop) × (r .state ≡ state) ⌝ }
+{
+    Acted { stop, state, seen }
+}
 
 fn ended(stop: u8, state: State, at: usize, seen: usize) -> Turn
     ensures { λ r. ⌜ (r .stop ≡ stop) × (r .state ≡ state) ⌝ }
@@ -42,33 +49,30 @@ fn act(
     z: Sizes,
     s: State,
     dir: Directive,
-    next: usize,
     seen: usize,
     regs: &mut [u32],
     mem: &mut [u32],
     obs: &mut [u8],
-) -> Turn
+) -> Acted
     requires { ⌜ Ready z (now t) s (now mem) × (seen ≤ length (now obs)) ⌝ }
-    ensures moves { λ r. ⌜ (r .stop ≡ 0 → ActMoves z (now (t .entry)) s dir next seen (lent (now (regs .entry)) (now (mem .entry)) (now (obs .entry))) r (lent (now (regs .exit)) (now (mem .exit)) (now (obs .exit)))) ⌝ }
-    ensures halts { λ r. ⌜ ((r .stop ≡ 0 → ⊥) → ActHalts z (now (t .entry)) s dir seen (lent (now (regs .entry)) (now (mem .entry)) (now (obs .entry))) r (lent (now (regs .exit)) (now (mem .exit)) (now (obs .exit)))) ⌝ }
+    ensures { λ r. ⌜ Acts z (now (t .entry)) s dir seen (lent (now (regs .entry)) (now (mem .entry)) (now (obs .entry))) r (lent (now (regs .exit)) (now (mem .exit)) (now (obs .exit))) ⌝ }
 {
     let p = plan(t, z, s, dir, regs, mem);
     if p.stop != 0 {
-        return ended(p.stop, s, next, seen);
+        return halted(p.stop, s, seen);
     }
     let o = p.seen;
     let k = size_of(o);
     if obs.len() - seen < k {
-        return ended(26, s, next, seen);
+        return halted(26, s, seen);
     }
     put_observation(obs, seen, o);
     let e = p.effect;
     apply(t, z, e, regs, mem);
     let state = p.state;
-    Turn {
+    Acted {
         stop: 0,
         state,
-        at: next,
         seen: seen + k,
     }
 }
@@ -96,8 +100,7 @@ fn one_turn(
     obs: &mut [u8],
 ) -> Turn
     requires { ⌜ Ready z (now t) s (now mem) × (seen ≤ length (now obs)) ⌝ }
-    ensures moves { λ r. ⌜ (r .stop ≡ 0 → TurnMoves z (now (t .entry)) s (now (dirs .entry)) at seen (lent (now (regs .entry)) (now (mem .entry)) (now (obs .entry))) r (lent (now (regs .exit)) (now (mem .exit)) (now (obs .exit)))) ⌝ }
-    ensures halts { λ r. ⌜ ((r .stop ≡ 0 → ⊥) → TurnHalts z (now (t .entry)) s (now (dirs .entry)) at seen (lent (now (regs .entry)) (now (mem .entry)) (now (obs .entry))) r (lent (now (regs .exit)) (now (mem .exit)) (now (obs .exit)))) ⌝ }
+    ensures { λ r. ⌜ Turns z (now (t .entry)) s (now (dirs .entry)) at seen (lent (now (regs .entry)) (now (mem .entry)) (now (obs .entry))) r (lent (now (regs .exit)) (now (mem .exit)) (now (obs .exit))) ⌝ }
 {
     let place = s.place;
     if place == last_place(t) {
@@ -109,7 +112,16 @@ fn one_turn(
     let told = directive_at(dirs, at);
     match told {
         Told::Bad => ended(20, s, at, seen),
-        Told::Got(dir, next) => act(t, z, s, dir, next, seen, regs, mem, obs),
+        Told::Got(dir, next) => {
+            let w = act(t, z, s, dir, seen, regs, mem, obs);
+            let state = w.state;
+            Turn {
+                stop: w.stop,
+                state,
+                at: next,
+                seen: w.seen,
+            }
+        }
     }
 }
 

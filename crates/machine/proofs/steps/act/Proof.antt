@@ -12,15 +12,15 @@ use Rattle.machine.proofs.bytes.put_observation.Reads as put-observatio
 use Rattle.machine.proofs.bytes.size_of.Reads as size-of-reads
 use Rattle.machine.proofs.memory.apply.Reads as apply-reads
 use Rattle.machine.proofs.plans.plan.Reads as plan-reads
-use Rattle.machine.proofs.steps.ended.Reads as ended-reads
+use Rattle.machine.proofs.steps.halted.Reads as halted-reads
 
 -- src/steps.rt:55:9
 plan-requires : tie.Need-plan-requires
 plan-requires c κs = search needs
 
 -- src/steps.rt:57:9
-ended-requires : tie.Need-ended-requires
-ended-requires c κs = search needs
+halted-requires : tie.Need-halted-requires
+halted-requires c κs = search needs
 
 -- src/steps.rt:57:9
 same-length : tie.Need-same-length
@@ -34,7 +34,7 @@ same-length-2 c = search needs
 returns : tie.Need-returns
 returns c =
     let a = c .before .before .before .before .before .before .before .before .before .before .args in
-    act-stops (a .z) (a .t .now) (a .s) (a .dir) (a .next) (a .seen) (lent (a .regs .now) (a .mem .now) (a .obs .now)) (c .before .before .before .plan .result) (c .ended .result) (c .before .before .before .plan .ensures .0) (c .before .if1 .taken) (c .ended .ensures .0) (c .ended .ensures .1)
+    act-stops (a .z) (a .t .now) (a .s) (a .dir) (a .seen) (lent (a .regs .now) (a .mem .now) (a .obs .now)) (c .before .before .before .plan .result) (c .halted .result) (c .before .before .before .plan .ensures .0) (c .before .if1 .taken) (c .halted .ensures .0) (c .halted .ensures .1)
 
 -- src/steps.rt:60:9
 size-of-requires : tie.Need-size-of-requires
@@ -45,8 +45,8 @@ sub-if2 : tie.Need-sub-if2
 sub-if2 c = search needs
 
 -- src/steps.rt:62:9
-ended-requires-2 : tie.Need-ended-requires-2
-ended-requires-2 c κs = search needs
+halted-requires-2 : tie.Need-halted-requires-2
+halted-requires-2 c κs = search needs
 
 -- src/steps.rt:62:9
 same-length-3 : tie.Need-same-length-3
@@ -60,7 +60,7 @@ same-length-4 c = search needs
 returns-2 : tie.Need-returns-2
 returns-2 c =
     let a = c .before .before .before .before .before .before .before .before .before .before .before .before .args in
-    act-full (a .z) (a .t .now) (a .s) (a .dir) (a .next) (a .seen) (lent (a .regs .now) (a .mem .now) (a .obs .now)) (c .before .before .before .before .before .plan .result) (c .ended2 .result) (c .before .before .before .before .before .plan .ensures .0) (c .before .before .before .if1 .left) (omega (arith, c .before .if2 .taken, c .before .before .size-of .ensures .0)) (c .ended2 .ensures .0) (c .ended2 .ensures .1)
+    act-full (a .z) (a .t .now) (a .s) (a .dir) (a .seen) (lent (a .regs .now) (a .mem .now) (a .obs .now)) (c .before .before .before .before .before .plan .result) (c .halted2 .result) (c .before .before .before .before .before .plan .ensures .0) (c .before .before .before .if1 .left) (omega (arith, c .before .if2 .taken, c .before .before .size-of .ensures .0)) (c .halted2 .ensures .0) (c .halted2 .ensures .1)
 
 -- src/steps.rt:64:5
 put-observation-requires : tie.Need-put-observation-requires
@@ -71,9 +71,9 @@ apply-requires : tie.Need-apply-requires
 apply-requires c κs = search needs
 
 -- src/steps.rt:72:15
-add-t20 : tie.Need-add-t20
-add-t20 c =
-    omega (arith, c .before .before .before .before .before .before .before .before .before .before .before .before .if2 .left, c .before .before .before .before .before .before .before .before .before .before .before .before .before .size-of .ensures .0, c .before .before .before .before .before .before .before .before .before .before .before .before .before .size-of .ensures .1, c .before .before .before .before .before .before .before .before .before .before .before .before .before .before .before .before .before .before .before .before .before .before .before .pre .1, c .before .before .before .before .before .before .before .before .before .before .before .before .before .before .before .before .before .before .before .before .before .before .before .good .1 .1 .1 .1 .1 .1 .1 .1 .0 .0)
+add-t19 : tie.Need-add-t19
+add-t19 c =
+    omega (arith, c .before .before .before .before .before .before .before .before .before .before .before .before .if2 .left, c .before .before .before .before .before .before .before .before .before .before .before .before .before .size-of .ensures .0, c .before .before .before .before .before .before .before .before .before .before .before .before .before .size-of .ensures .1, c .before .before .before .before .before .before .before .before .before .before .before .before .before .before .before .before .before .before .before .before .before .before .before .pre .1, c .before .before .before .before .before .before .before .before .before .before .before .before .before .before .before .before .before .before .before .before .before .before .before .good .1 .1 .1 .1 .1 .1 .1 .0 .0)
 
 -- src/steps.rt:40:1
 same-length-5 : tie.Need-same-length-5
@@ -92,26 +92,26 @@ returns-3 : tie.Need-returns-3
 returns-3 c =
     let a = c .before .before .before .before .before .before .before .before .before .before .before .before .before .before .before .before .before .before .before .before .before .before .before .args in
     let k = c .before .before .before .before .before .before .before .before .before .before .before .before .before .size-of .ensures .0 in
-    act-goes (a .z) (a .t .now) (a .s) (a .dir) (a .next) (a .seen) (lent (a .regs .now) (a .mem .now) (a .obs .now)) (c .before .before .before .before .before .before .before .before .before .before .before .before .before .before .before .before .plan .result) _ (c .before .before .before .before .before .before .before .before .before .before .before .before .before .before .before .before .plan .ensures .0) _ _ _ (c .before .before .before .before .before .before .before .before .before .before .before .before .before .before .if1 .left) (omega (arith, k, c .before .before .before .before .before .before .before .before .before .before .before .before .if2 .left)) (c .before .before .before .before .before .apply .ensures) (c .before .before .before .before .before .before .before .before .before .before .put-observation .ensures) refl refl refl (ap (λ (n : ℕ). a .seen + n) k)
+    act-goes (a .z) (a .t .now) (a .s) (a .dir) (a .seen) (lent (a .regs .now) (a .mem .now) (a .obs .now)) (c .before .before .before .before .before .before .before .before .before .before .before .before .before .before .before .before .plan .result) _ (c .before .before .before .before .before .before .before .before .before .before .before .before .before .before .before .before .plan .ensures .0) _ _ _ (c .before .before .before .before .before .before .before .before .before .before .before .before .before .before .if1 .left) (omega (arith, k, c .before .before .before .before .before .before .before .before .before .before .before .before .if2 .left)) (c .before .before .before .before .before .apply .ensures) (c .before .before .before .before .before .before .before .before .before .before .put-observation .ensures) refl refl (ap (λ (n : ℕ). a .seen + n) k)
 
 pub act-spec : {M : Type 1} → statement M
 act-spec =
     tie.close
     (tie.spec
     plan-requires
-    ended-requires
+    halted-requires
     same-length
     same-length-2
     returns
     size-of-requires
     sub-if2
-    ended-requires-2
+    halted-requires-2
     same-length-3
     same-length-4
     returns-2
     put-observation-requires
     apply-requires
-    add-t20
+    add-t19
     same-length-5
     same-length-6
     same-length-7

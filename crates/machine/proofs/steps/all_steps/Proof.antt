@@ -84,7 +84,7 @@ loop-less c =
     let L = c .before .before .before .before .before .before .before .before .before .before .before .before .before .loop in
     let w = c .before .before .before .before .before .before .before .before .before .one-turn .ensures .0 (c .if1 .left) in
     let on = directive-on _ _ (w .inside) (w .told) in
-    let at = w .acts .at in
+    let at = w .at′ in
     omega (arith, on .0, on .1, at)
 
 -- src/steps.rt:145:5
@@ -94,7 +94,7 @@ loop-again c =
     let L = c .before .before .before .before .before .before .before .before .before .before .before .before .before .loop in
     let w = c .before .before .before .before .before .before .before .before .before .one-turn .ensures .0 (c .if1 .left) in
     let on = directive-on _ _ (w .inside) (w .told) in
-    let at = w .acts .at in
+    let at = w .at′ in
     let k = c .before .before .before .before .before .before .before .before .before .one-turn .kept in
     let g = moves (a .t .now) (a .z) (L .inv .0) (startCtl (tableWith (a .z) (a .t .now)) false) (words (a .regs .now) (a .mem .now) false) (a .dirs .now) (a .obs .now) (L .s) (L .at) (L .seen) (L .steps) (lent (L .regs) (L .mem) (L .obs)) (L .inv .1) (c .before .before .before .before .before .before .before .before .before .one-turn .result) _ (omega (arith, k .1 .1 .1 .1 .1 .1 .1 .0)) w (omega (arith, on .0, at), omega (arith, on .1, at)) in
     (L .inv .0, g, omega (arith, k .1 .1 .1 .1 .1 .1 .0, L .inv .2), omega (arith, k .1 .1 .1 .1 .1 .1 .1 .0, L .inv .3), omega (arith, k .1 .1 .1 .1 .1 .1 .1 .1 .0, L .inv .4))

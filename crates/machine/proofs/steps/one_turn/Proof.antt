@@ -13,6 +13,7 @@ use Rattle.machine.proofs.steps.ended.Reads as ended-reads
 use Rattle.machine.proofs.steps.last_place.Reads as last-place-reads
 
 -- src/steps.rt:103:17
+
 last-place-requires : tie.Need-last-place-requires
 last-place-requires c κs = search needs
 
@@ -83,10 +84,10 @@ same-length-3 c = search needs
 -- src/steps.rt:87:1
 returns-4 : tie.Need-returns-4
 returns-4 c =
-    let a = c .before .before .before .before .before .before .before .before .before .before .before .before .before .before .before .before .before .before .before .before .before .before .args in
-    let ready = c .before .before .before .before .before .before .before .before .before .before .before .before .before .before .before .before .before .before .before .before .before .before .pre .0 in
-    let last = c .before .before .before .before .before .before .before .before .before .before .before .before .before .before .before .before .last-place .ensures in
-    turn-acts (a .z) (a .t .now) (a .s) (a .dirs .now) (a .at) (a .seen) (lent (a .regs .now) (a .mem .now) (a .obs .now)) ready _ _ _ _ (λ q. c .before .before .before .before .before .before .before .before .before .before .before .before .before .before .before .if1 .left (q ∙ sym last)) (c .before .before .before .before .before .before .before .before .before .before .before .before .before .before .if2 .left) (sym (c .before .before .before .before .before .before .before .before .before .before .before .before .before .directive-at .ensures) ∙ c .before .before .before .before .before .before .before .before .before .before .before .told .given .1) (c .before .before .before .before .before .before .act .ensures)
+    let a = c .before .before .before .before .before .before .before .before .before .before .before .before .before .before .before .before .before .before .before .before .before .before .before .args in
+    let ready = c .before .before .before .before .before .before .before .before .before .before .before .before .before .before .before .before .before .before .before .before .before .before .before .pre .0 in
+    let last = c .before .before .before .before .before .before .before .before .before .before .before .before .before .before .before .before .before .last-place .ensures in
+    turn-acts (a .z) (a .t .now) (a .s) (a .dirs .now) (a .at) (a .seen) (lent (a .regs .now) (a .mem .now) (a .obs .now)) ready _ _ _ _ refl (λ q. c .before .before .before .before .before .before .before .before .before .before .before .before .before .before .before .before .if1 .left (q ∙ sym last)) (c .before .before .before .before .before .before .before .before .before .before .before .before .before .before .before .if2 .left) (sym (c .before .before .before .before .before .before .before .before .before .before .before .before .before .before .directive-at .ensures) ∙ c .before .before .before .before .before .before .before .before .before .before .before .before .told .given .1) (c .before .before .before .before .before .before .before .act .ensures)
 
 pub one-turn-spec : {M : Type 1} → statement M
 one-turn-spec =
