@@ -33,7 +33,7 @@ use Rattle.machine.specs.declared.Told.{Told}
 use Rattle.machine.specs.declared.Told.the-variants.{Got, Bad}
 use Rattle.machine.specs.declared.Outcome.the-variants.{Stopped}
 use Rattle.machine.specs.Directives.{directiveAt, onTold, directivesFrom, bytesOf, allBytes}
-use Rattle.machine.specs.States.{words, stackOf, ctlOf, dataOf, Planned}
+use Rattle.machine.specs.States.{words, stackOf, ctlOf, dataOf}
 use Rattle.machine.specs.Runs.{Ran, ran, total, ranFrom}
 use Rattle.machine.specs.Turns.{Lent, Ready, ActMoves, TurnMoves, TurnHalts}
 
@@ -105,7 +105,7 @@ run-went : (t : Table) (d : Directive) (ds : List Directive) (room : ℕ) (c c�
 run-went t d ds room c c′ x x′ o e s l = run-step t d ds room c x e ∙ rw (s, le-leb (size o) room l)
 
 -- ---- where a run stands
-length-stack : (d : ℕ) (xs : List ℕ) → length (stackOf d xs) ≡ d
+pub length-stack : (d : ℕ) (xs : List ℕ) → length (stackOf d xs) ≡ d
 length-stack zero xs = refl
 length-stack (suc d) xs = ap suc (length-stack d xs)
 
@@ -135,9 +135,6 @@ module _ (t : List ℕ) (z : Sizes) (e : readAt t ≡ Reads z) where
       let b = stack-bound T (known t z e) (record { place = T .start f; stack = (s .place + 3) ∷ ctlOf s .stack; mis = s .mis }) w in
       omega (arith, b, length-stack (s .depth) (s .stack), read-limits t z e .1 .functions)
 
-  pub planned : (s : State) → StandsAt (ctlOf s) → Planned z t s
-  planned s h = record { short = read-limits t z e .2; room = λ f m r. room-at s h f m (subst (λ (y : Sizes). recordOf y t (s .place) ≡ Call f m) own-sizes r) }
-
   -- the entry's RETURN is the table's last byte
   pub last-byte : (tableWith z t) .ret (entry (tableWith z t)) ≡ length t - 1
   unfolding returnOf
@@ -147,7 +144,12 @@ module _ (t : List ℕ) (z : Sizes) (e : readAt t ≡ Reads z) where
       rw (borrow.Author.Tests.eq-eqb (z .functions - 1 + 1) (z .functions) q)
 
   pub ready : (s : State) (mem : List ℕ) → StandsAt (ctlOf s) → length mem ≡ total (wordsFrom z t (z .arrays) 0) → Ready z t s mem
-  ready s mem h l = record { planned = planned s h; long = l; last = last-byte }
+  ready s mem h l = record {
+    short = read-limits t z e .2;
+    room = λ f m r. room-at s h f m (subst (λ (y : Sizes). recordOf y t (s .place) ≡ Call f m) own-sizes r);
+    long = l;
+    last = last-byte;
+  }
 
   -- a step leads to where a run can stand
   pub stands-on : (s s′ : State) (dir : Directive) (x x′ : Data) (o : Observation) → StandsAt (ctlOf s) → step (tableWith z t) (ctlOf s) dir x ≡ Went (ctlOf s′) x′ o → StandsAt (ctlOf s′)

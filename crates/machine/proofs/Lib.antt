@@ -3,3 +3,4 @@ pub mod Planning
 pub mod Going
 pub mod Stepping
 pub mod Answers
+pub mod Moving

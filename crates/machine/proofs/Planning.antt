@@ -33,9 +33,10 @@ use Rattle.format.specs.Format.{byte, word16, decodeAt}
 use Rattle.format.specs.Layout.{recordFrom, recordOf, tableWith}
 use Rattle.format.specs.declared.Decoded.{Decoded}
 use Rattle.format.specs.declared.Decoded.the-variants.{Got, Bad as Unread}
-use Rattle.machine.specs.States.{stackOf, ctlOf, applied, viewPlan, Lands, isPlain, tops, below, leaves}
+use Rattle.machine.specs.States.{stackOf, ctlOf, ctlNext, applied, viewPlan, Lands, isPlain, tops, below, leaves}
 use Rattle.machine.specs.declared.State.{State}
 use Rattle.machine.specs.declared.Effect.{Effect}
+use Rattle.machine.specs.declared.Next.{Next}
 use Rattle.machine.specs.declared.Plan.{Plan}
 use Rattle.machine.proofs.Words.{words-first, words-out}
 
@@ -47,22 +48,22 @@ passed b x y e = ap (λ (c : Bool). pick c x y) e
 
 -- ---- a plan by its stop
 -- what `go` says of a plan
-abbrev pub Goes : Plan → State → Effect → Observation → Type 0
-Goes p s e o = (p .stop ≡ 0) × (p .state ≡ s) × (p .effect ≡ e) × (p .seen ≡ o)
+abbrev pub Goes : Plan → Next → Effect → Observation → Type 0
+Goes p n e o = (p .stop ≡ 0) × (p .next ≡ n) × (p .effect ≡ e) × (p .seen ≡ o)
 
-pub goes : (t : Table) (p : Plan) (x : Data) {s : State} {e : Effect} {o : Observation} {c : Ctl} {m : Bool} → Goes p s e o → (ctlOf s ≡ c) × (s .masked ≡ m)
-    → viewPlan t p x ≡ Went c (flagged (applied t e x) m) o
-goes t p x {s} {e} {o} {c} {m} g k =
-    picked (eqb (p .stop) 0) (Went (ctlOf (p .state)) (flagged (applied t (p .effect) x) (p .state .masked)) (p .seen)) (Stop (p .stop)) (eq-eqb (p .stop) 0 (g .0))
-    ∙ ap (λ (u : State). Went (ctlOf u) (flagged (applied t (p .effect) x) (u .masked)) (p .seen)) (g .1)
-    ∙ ap (λ (u : Effect). Went (ctlOf s) (flagged (applied t u x) (s .masked)) (p .seen)) (g .2)
-    ∙ ap (λ (u : Observation). Went (ctlOf s) (flagged (applied t e x) (s .masked)) u) (g .3)
-    ∙ ap (λ (u : Ctl). Went u (flagged (applied t e x) (s .masked)) o) (k .0)
+pub goes : (t : Table) (s : State) (p : Plan) (x : Data) {n : Next} {e : Effect} {o : Observation} {c : Ctl} {m : Bool} → Goes p n e o → (ctlNext s n ≡ c) × (n .masked ≡ m)
+    → viewPlan t s p x ≡ Went c (flagged (applied t e x) m) o
+goes t s p x {n} {e} {o} {c} {m} g k =
+    picked (eqb (p .stop) 0) (Went (ctlNext s (p .next)) (flagged (applied t (p .effect) x) (p .next .masked)) (p .seen)) (Stop (p .stop)) (eq-eqb (p .stop) 0 (g .0))
+    ∙ ap (λ (u : Next). Went (ctlNext s u) (flagged (applied t (p .effect) x) (u .masked)) (p .seen)) (g .1)
+    ∙ ap (λ (u : Effect). Went (ctlNext s n) (flagged (applied t u x) (n .masked)) (p .seen)) (g .2)
+    ∙ ap (λ (u : Observation). Went (ctlNext s n) (flagged (applied t e x) (n .masked)) u) (g .3)
+    ∙ ap (λ (u : Ctl). Went u (flagged (applied t e x) (n .masked)) o) (k .0)
     ∙ ap (λ (u : Bool). Went c (flagged (applied t e x) u) o) (k .1)
 
-pub stops : (t : Table) (p : Plan) (x : Data) {k : ℕ} → p .stop ≡ k → eqb k 0 ≡ false → viewPlan t p x ≡ Stop k
-stops t p x {k} e n =
-    passed (eqb (p .stop) 0) (Went (ctlOf (p .state)) (flagged (applied t (p .effect) x) (p .state .masked)) (p .seen)) (Stop (p .stop)) (ap (λ (i : ℕ). eqb i 0) e ∙ n)
+pub stops : (t : Table) (s : State) (p : Plan) (x : Data) {k : ℕ} → p .stop ≡ k → eqb k 0 ≡ false → viewPlan t s p x ≡ Stop k
+stops t s p x {k} e n =
+    passed (eqb (p .stop) 0) (Went (ctlNext s (p .next)) (flagged (applied t (p .effect) x) (p .next .masked)) (p .seen)) (Stop (p .stop)) (ap (λ (i : ℕ). eqb i 0) e ∙ n)
     ∙ ap Stop e
 
 -- an effect that lands
@@ -82,12 +83,12 @@ plain-no (Branch b) w h = refl
 plain-no (Stray a i) w h = refl
 plain-no (Back q) w h = refl
 
-pub goes-plain : (t : Table) (p : Plan) (x : Data) (d : Directive) {s : State} {e : Effect} {c : Ctl} {m : Bool} → isPlain d ≡ true → Goes p s e Nothing → (ctlOf s ≡ c) × (s .masked ≡ m)
-    → viewPlan t p x ≡ onward (plain d (did (flagged (applied t e x) m) Nothing)) c
-goes-plain t p x d {s} {e} {c} {m} h g k = goes t p x g k ∙ sym (ap (λ (w : Work). onward w c) (plain-yes d (did (flagged (applied t e x) m) Nothing) h))
+pub goes-plain : (t : Table) (s : State) (p : Plan) (x : Data) (d : Directive) {n : Next} {e : Effect} {c : Ctl} {m : Bool} → isPlain d ≡ true → Goes p n e Nothing → (ctlNext s n ≡ c) × (n .masked ≡ m)
+    → viewPlan t s p x ≡ onward (plain d (did (flagged (applied t e x) m) Nothing)) c
+goes-plain t s p x d {n} {e} {c} {m} h g k = goes t s p x g k ∙ sym (ap (λ (w : Work). onward w c) (plain-yes d (did (flagged (applied t e x) m) Nothing) h))
 
-pub stops-plain : (t : Table) (p : Plan) (x : Data) (d : Directive) (w : Work) (c : Ctl) → isPlain d ≡ false → p .stop ≡ 22 → viewPlan t p x ≡ onward (plain d w) c
-stops-plain t p x d w c h e = stops t p x e refl ∙ sym (ap (λ (v : Work). onward v c) (plain-no d w h))
+pub stops-plain : (t : Table) (s : State) (p : Plan) (x : Data) (d : Directive) (w : Work) (c : Ctl) → isPlain d ≡ false → p .stop ≡ 22 → viewPlan t s p x ≡ onward (plain d w) c
+stops-plain t s p x d w c h e = stops t s p x e refl ∙ sym (ap (λ (v : Work). onward v c) (plain-no d w h))
 
 -- ---- values
 pub not-zero : (b : Bool) → not b ≡ pick b false true
@@ -211,20 +212,20 @@ module _ (t : Table) where
   touched a i mis d e = subst Touches e (access-touches a i mis d)
 
   -- LOAD and STORE
-  pub load-bad : (p : Plan) (x : Data) (c : Ctl) (d a i n : ℕ) (mis : Bool) (dir : Directive) → access t a (reg x i) mis dir ≡ Bad n → p .stop ≡ n
-      → viewPlan t p x ≡ onward (work t (Load d a i) dir mis x) c
-  load-bad p x c d a i n mis dir e h =
-      stops t p x h (touched a (reg x i) mis dir e)
+  pub load-bad : (u : State) (p : Plan) (x : Data) (c : Ctl) (d a i n : ℕ) (mis : Bool) (dir : Directive) → access t a (reg x i) mis dir ≡ Bad n → p .stop ≡ n
+      → viewPlan t u p x ≡ onward (work t (Load d a i) dir mis x) c
+  load-bad u p x c d a i n mis dir e h =
+      stops t u p x h (touched a (reg x i) mis dir e)
       ∙ sym (ap (λ (w : Access). onward (byAccess w (λ b j. did (wrote x d (wordAt t x b j)) (Address a (reg x i)))) c) e)
 
   pub load-word : (x : Data) (c : Ctl) (d a i b j : ℕ) (mis : Bool) (dir : Directive) → access t a (reg x i) mis dir ≡ At b j
       → Went c (wrote x d (wordAt t x b j)) (Address a (reg x i)) ≡ onward (work t (Load d a i) dir mis x) c
   load-word x c d a i b j mis dir e = sym (ap (λ (w : Access). onward (byAccess w (λ b j. did (wrote x d (wordAt t x b j)) (Address a (reg x i)))) c) e)
 
-  pub store-bad : (p : Plan) (x : Data) (c : Ctl) (a i s n : ℕ) (mis : Bool) (dir : Directive) → access t a (reg x i) mis dir ≡ Bad n → p .stop ≡ n
-      → viewPlan t p x ≡ onward (work t (Store a i s) dir mis x) c
-  store-bad p x c a i s n mis dir e h =
-      stops t p x h (touched a (reg x i) mis dir e)
+  pub store-bad : (u : State) (p : Plan) (x : Data) (c : Ctl) (a i s n : ℕ) (mis : Bool) (dir : Directive) → access t a (reg x i) mis dir ≡ Bad n → p .stop ≡ n
+      → viewPlan t u p x ≡ onward (work t (Store a i s) dir mis x) c
+  store-bad u p x c a i s n mis dir e h =
+      stops t u p x h (touched a (reg x i) mis dir e)
       ∙ sym (ap (λ (w : Access). onward (byAccess w (λ b j. did (stored t x b j (reg x s)) (Address a (reg x i)))) c) e)
 
   pub store-word : (x : Data) (c : Ctl) (a i s b j : ℕ) (mis : Bool) (dir : Directive) → access t a (reg x i) mis dir ≡ At b j

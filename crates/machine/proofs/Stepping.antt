@@ -1,13 +1,13 @@
 -- What act and one_turn show of their answers, over plain values: one law for each way that they return.
-use Prim.Native.Nat.{ℕ, _+_, _-_, _<_, _≤_}
+use Prim.Native.Nat.{ℕ, zero, suc, _+_, _-_, _<_, _≤_}
 use native.Mathlib.Omega.{arith}
 use mathlib.Core.Path.{_≡_, refl, sym, ap, subst, _∙_}
 use mathlib.Core.Bool.{Bool, true, false}
-use mathlib.Core.List.{List, []}
+use mathlib.Core.List.{List, [], _∷_}
 use lib.ListN.{length}
 use lib.Seq.{sets}
 use lib.Dec.{eqb, leb}
-use borrow.Author.Tests.{eq-eqb, ne-eqb, lt-leb}
+use borrow.Author.Tests.{eq-eqb, ne-eqb, lt-leb, lt-ltb, le-ltb}
 use Rattle.model.specs.Tests.{pick}
 use Rattle.model.specs.Table.{Table, entry}
 use Rattle.model.specs.Machine.{Ctl, Data, flagged, Stepped, Stop, Went, step, size, Final, final, afterStep, ended, run, startCtl}
@@ -19,16 +19,30 @@ use Rattle.reading.specs.Reading.{readAt}
 use Rattle.reading.specs.Known.{known}
 use Rattle.reading.specs.declared.Answer.the-variants.{Reads}
 use Rattle.machine.specs.declared.State.{State}
+use Rattle.machine.specs.declared.Stacking.{Stacking}
+use Rattle.machine.specs.declared.Stacking.the-variants.{Same, Push, Pop, Clear}
+use Rattle.machine.specs.declared.Next.{Next}
 use Rattle.machine.specs.declared.Plan.{Plan}
 use Rattle.machine.specs.declared.Acted.{Acted}
 use Rattle.machine.specs.declared.Turn.{Turn}
 use Rattle.machine.specs.declared.Told.the-variants.{Got, Bad}
 use Rattle.machine.specs.Directives.{directiveAt, directivesFrom, bytesOf}
-use Rattle.machine.specs.States.{words, ctlOf, dataOf, applied, viewPlan}
+use Rattle.machine.specs.States.{words, stackOf, ctlOf, ctlNext, arrayNext, arrayed, RoomFor, dataOf, applied, viewPlan, stacked, below}
 use Rattle.machine.specs.Runs.{total, ranFrom}
 use Rattle.machine.specs.Turns.{Lent, lent, actedOf, Ready, Acts, Turns}
-use Rattle.machine.proofs.Going.{directives-end, directives-bad, directives-on, run-ended, run-used, run-step, Going, StandsAt, own-sizes}
+use Rattle.machine.proofs.Moving.{Moved, Grows, only-calls}
+use Rattle.machine.proofs.Going.{directives-end, directives-bad, directives-on, length-stack, run-ended, run-used, run-step, Going, StandsAt, own-sizes}
 use Rattle.machine.specs.Everywhere.{start-stands}
+
+length-below : (ps : List ℕ) → length (below ps) ≤ length ps
+length-below [] = omega arith
+length-below (p ∷ ps) = omega arith
+
+array-next : (s : State) (k : Stacking) → arrayNext s k ≡ arrayed s (stacked k (ctlOf s .stack))
+array-next s Same = rw (length-stack (s .depth) (s .stack), le-ltb (s .depth) (s .depth) (omega arith))
+array-next s (Push q) = rw (length-stack (s .depth) (s .stack), lt-ltb (s .depth) (suc (s .depth)) (omega arith))
+array-next s Pop = rw (le-ltb (s .depth) (length (below (ctlOf s .stack))) (omega (arith, length-below (ctlOf s .stack), length-stack (s .depth) (s .stack))))
+array-next s Clear = rw (le-ltb (s .depth) 0 (omega arith))
 
 module _ (z : Sizes) (t : List ℕ) (s : State) where
   abbrev T : Table
@@ -37,43 +51,53 @@ module _ (z : Sizes) (t : List ℕ) (s : State) where
   abbrev here : Lent → Data
   here a = dataOf s (a .regs) (a .mem)
 
-  module _ (dir : Directive) (seen : ℕ) (a : Lent) (p : Plan) (r : Acted) (planned : viewPlan T p (here a) ≡ step T (ctlOf s) dir (here a)) where
+  module _ (dir : Directive) (a : Lent) (p : Plan) (planned : viewPlan T s p (here a) ≡ step T (ctlOf s) dir (here a)) where
+    went : p .stop ≡ 0 → step T (ctlOf s) dir (here a) ≡ Went (ctlNext s (p .next)) (flagged (applied T (p .effect) (here a)) (p .next .masked)) (p .seen)
+    went e = sym planned ∙ rw (eq-eqb (p .stop) 0 e)
+
+    -- a place is pushed by a CALL alone, where there is room for it
+    pub room-for : Ready z t s (a .mem) → p .stop ≡ 0 → RoomFor s (p .next .stacking)
+    room-for ready e q k =
+        let (f, m, r) = subst (Grows (T .rec (s .place)) (ctlOf s)) (went e) (only-calls T (ctlOf s) dir (here a)) q (ap (λ (j : Stacking). stacked j (ctlOf s .stack)) k) in
+        ready .room f m r
+
+  module _ (dir : Directive) (seen : ℕ) (a : Lent) (p : Plan) (r : Acted) (planned : viewPlan T s p (here a) ≡ step T (ctlOf s) dir (here a)) where
     -- a stop of the step's own
-    pub act-stops : (p .stop ≡ 0 → ⊥) → r .stop ≡ p .stop → r .state ≡ s → Acts z t s dir seen a r a
-    act-stops n e st = (
+    pub act-stops : (p .stop ≡ 0 → ⊥) → r .stop ≡ p .stop → r .state ≡ s → r .seen ≡ seen → Acts z t s dir seen a r a
+    act-stops n e st u = (
       λ q. absurd (n (sym e ∙ q)),
       λ _. record {
         stays = st;
+        unseen = u;
         kept = refl;
         stopped = λ f. rw (← planned, ne-eqb (p .stop) 0 n, e);
       },
     )
 
-    went : p .stop ≡ 0 → step T (ctlOf s) dir (here a) ≡ Went (ctlOf (p .state)) (flagged (applied T (p .effect) (here a)) (p .state .masked)) (p .seen)
-    went e = sym planned ∙ rw (eq-eqb (p .stop) 0 e)
-
     -- no room
-    pub act-full : p .stop ≡ 0 → length (a .obs) - seen < size (p .seen) → r .stop ≡ 26 → r .state ≡ s → Acts z t s dir seen a r a
-    act-full e l k st = (
+    pub act-full : p .stop ≡ 0 → length (a .obs) - seen < size (p .seen) → r .stop ≡ 26 → r .state ≡ s → r .seen ≡ seen → Acts z t s dir seen a r a
+    act-full e l k st u = (
       λ q. absurd (omega arith),
       λ _. record {
         stays = st;
+        unseen = u;
         kept = refl;
-        stopped = λ f. rw (went e, lt-leb (size (p .seen)) (length (a .obs) - seen) l, k);
+        stopped = λ f. rw (went dir a p planned e, lt-leb (size (p .seen)) (length (a .obs) - seen) l, k);
       },
     )
 
     -- the step is made
     pub act-goes : (regs mem obs : List ℕ) → p .stop ≡ 0 → size (p .seen) ≤ length (a .obs) - seen
         → ((m : Bool) → words regs mem m ≡ applied T (p .effect) (words (a .regs) (a .mem) m)) → obs ≡ sets (a .obs) seen (bytesOf (p .seen))
-        → r .stop ≡ 0 → r .state ≡ p .state → r .seen ≡ seen + size (p .seen) → Acts z t s dir seen a r (lent regs mem obs)
-    act-goes regs mem obs e l w o k st sn = (
+        → r .stop ≡ 0 → Moved s (p .next) (r .state) → r .seen ≡ seen + size (p .seen) → Acts z t s dir seen a r (lent regs mem obs)
+    act-goes regs mem obs e l w o k (ctl, flag, row) sn = (
       λ _. record {
         saw = p .seen;
-        stepped = went e ∙ rw (← (w (s .masked)), ← st);
+        stepped = went dir a p planned e ∙ rw (← (w (s .masked)), ctl, flag);
         room = l;
         wrote = o;
         seen′ = sn;
+        array = row ∙ array-next s (p .next .stacking) ∙ ap (arrayed s) (sym (ap (λ (c : Ctl). c .stack) ctl));
       },
       λ n. absurd (n k),
     )

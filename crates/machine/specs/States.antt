@@ -4,8 +4,8 @@ use mathlib.Core.Path.{_≡_}
 use mathlib.Core.Bool.{Bool, true, false, not, _||_}
 use mathlib.Core.Option.{Option, none, some}
 use mathlib.Core.List.{List, [], _∷_}
-use lib.ListN.{length, getD}
-use lib.Dec.{eqb}
+use lib.ListN.{length, getD, set}
+use lib.Dec.{eqb, ltb}
 use Rattle.model.specs.Tests.{pick}
 use Rattle.model.specs.Table.{Table}
 use Rattle.model.specs.Machine.{Ctl, Data, holds, wrote, stored, flagged, to, wordsOf, did, plain, onward, Stepped, Stop, Went}
@@ -18,6 +18,9 @@ use Rattle.model.specs.declared.Observation.the-variants.{Nothing}
 use Rattle.machine.specs.declared.State.{State}
 use Rattle.machine.specs.declared.Effect.{Effect}
 use Rattle.machine.specs.declared.Effect.the-variants.{None, Register, Word}
+use Rattle.machine.specs.declared.Stacking.{Stacking}
+use Rattle.machine.specs.declared.Stacking.the-variants.{Same, Push, Pop, Clear}
+use Rattle.machine.specs.declared.Next.{Next}
 use Rattle.machine.specs.declared.Plan.{Plan}
 use Rattle.machine.specs.declared.Site.{Site}
 use Rattle.machine.specs.declared.Site.the-variants.{Marked, Nowhere}
@@ -42,9 +45,38 @@ applied t None x = x
 applied t (Register d v) x = wrote x d v
 applied t (Word a i v) x = stored t x a i v
 
+abbrev pub below : List ℕ → List ℕ
+below [] = []
+below (p ∷ ps) = ps
+
+-- what becomes of the stack
+abbrev pub stacked : Stacking → List ℕ → List ℕ
+stacked Same ps = ps
+stacked (Push q) ps = q ∷ ps
+stacked Pop ps = below ps
+stacked Clear ps = []
+
+abbrev pub ctlNext : State → Next → Ctl
+ctlNext s n = record { place = n .place; stack = stacked (n .stacking) (ctlOf s .stack); mis = n .mis }
+
+-- a place is pushed only where there is room for it
+abbrev pub RoomFor : State → Stacking → Type 0
+RoomFor s k = (q : ℕ) → k ≡ Push q → s .depth < 31
+
+-- the stack's array afterwards: a place that is pushed stands at the depth
+abbrev pub arrayNext : State → Stacking → List ℕ
+arrayNext s Same = s .stack
+arrayNext s (Push q) = set (s .stack) (s .depth) q
+arrayNext s Pop = s .stack
+arrayNext s Clear = s .stack
+
+-- the same, from the stack after the step: "place" is the top where the stack has grown
+abbrev pub arrayed : State → List ℕ → List ℕ
+arrayed s ps = pick (ltb (s .depth) (length ps)) (set (s .stack) (s .depth) (getD ps 0 0)) (s .stack)
+
 -- a plan whose stop is 0 goes on
-abbrev pub viewPlan : Table → Plan → Data → Stepped
-viewPlan t p x = pick (eqb (p .stop) 0) (Went (ctlOf (p .state)) (flagged (applied t (p .effect) x) (p .state .masked)) (p .seen)) (Stop (p .stop))
+abbrev pub viewPlan : Table → State → Plan → Data → Stepped
+viewPlan t s p x = pick (eqb (p .stop) 0) (Went (ctlNext s (p .next)) (flagged (applied t (p .effect) x) (p .next .masked)) (p .seen)) (Stop (p .stop))
 
 -- a record that takes 60 and goes on at p: what it does to the data, and the flag afterwards
 abbrev pub plainly : Table → Directive → State → ℕ → Effect → Bool → Data → Stepped
@@ -79,15 +111,6 @@ abbrev pub tops : List ℕ → ℕ → Bool
 tops [] q = false
 tops (p ∷ ps) q = eqb p q
 
-abbrev pub below : List ℕ → List ℕ
-below [] = []
-below (p ∷ ps) = ps
-
 -- control after a right return
 abbrev pub leaves : Ctl → ℕ → Ctl
 leaves c q = record { place = q; stack = below (c .stack); mis = c .mis }
-
--- a table that has been read, and a state that has room on its stack wherever it stands at a CALL
-pub record Planned (z : Sizes) (t : List ℕ) (s : State) : Type 0 where
-  pub short : length t ≤ 32768
-  pub room : (f : ℕ) (m : Bool) → recordOf z t (s .place) ≡ Call f m → s .depth < 31

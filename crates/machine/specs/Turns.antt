@@ -10,13 +10,14 @@ use Rattle.model.specs.Table.{entry}
 use Rattle.model.specs.declared.Sizes.{Sizes}
 use Rattle.model.specs.declared.Directive.{Directive}
 use Rattle.model.specs.declared.Observation.{Observation}
-use Rattle.format.specs.Layout.{wordsFrom, tableWith}
+use Rattle.model.specs.declared.Record.the-variants.{Call}
+use Rattle.format.specs.Layout.{recordOf, wordsFrom, tableWith}
 use Rattle.machine.specs.declared.State.{State}
 use Rattle.machine.specs.declared.Acted.{Acted}
 use Rattle.machine.specs.declared.Turn.{Turn}
 use Rattle.machine.specs.declared.Told.the-variants.{Got}
 use Rattle.machine.specs.Directives.{directiveAt, directivesFrom, bytesOf}
-use Rattle.machine.specs.States.{ctlOf, dataOf, Planned}
+use Rattle.machine.specs.States.{ctlOf, dataOf, arrayed}
 use Rattle.machine.specs.Runs.{total}
 
 -- registers, memory, observations
@@ -28,9 +29,10 @@ pub record Lent : Type 0 where
 abbrev pub lent : List ℕ → List ℕ → List ℕ → Lent
 lent r m o = record { regs = r; mem = m; obs = o }
 
--- the table has been read, memory is of its size, the state stands where a run can stand, and the table's last byte is the entry's RETURN
+-- the table has been read, memory is of its size, the stack has room wherever the state stands at a CALL, and the table's last byte is the entry's RETURN
 pub record Ready (z : Sizes) (t : List ℕ) (s : State) (mem : List ℕ) : Type 0 where
-  pub planned : Planned z t s
+  pub short : length t ≤ 32768
+  pub room : (f : ℕ) (m : Bool) → recordOf z t (s .place) ≡ Call f m → s .depth < 31
   pub long : length mem ≡ total (wordsFrom z t (z .arrays) 0)
   pub last : (tableWith z t) .ret (entry (tableWith z t)) ≡ length t - 1
 
@@ -46,10 +48,12 @@ module _ (z : Sizes) (t : List ℕ) (s : State) where
     pub room : size saw ≤ length (a .obs) - seen
     pub wrote : b .obs ≡ sets (a .obs) seen (bytesOf saw)
     pub seen′ : r .seen ≡ seen + size saw
+    pub array : r .state .stack ≡ arrayed s (ctlOf (r .state) .stack)
 
   -- no step was made: a stop of the step's own, or 26
   pub record ActHalts (dir : Directive) (seen : ℕ) (a : Lent) (r : Acted) (b : Lent) : Type 0 where
     pub stays : r .state ≡ s
+    pub unseen : r .seen ≡ seen
     pub kept : a ≡ b
     pub stopped : (f : ℕ → Ctl → Data → Final)
         → afterStep (step (tableWith z t) (ctlOf s) dir (dataOf s (a .regs) (a .mem))) (length (a .obs) - seen) (ctlOf s) (dataOf s (a .regs) (a .mem)) f

@@ -9,6 +9,7 @@ ghost use Rattle.machine.specs.Runs.{ran, runAt};
 mod bytes;
 mod memory;
 mod plans;
+mod states;
 mod steps;
 
 // A directive with the place after it in the list, or a bad one.
@@ -39,10 +40,26 @@ pub enum Effect {
     Word(u8, usize, u32),
 }
 
+// What a step does to the stack.
+pub enum Stacking {
+    Same,
+    Push(u16),
+    Pop,
+    Clear,
+}
+
+// Where a step leads: the state after it, with what becomes of the stack in place of the stack.
+pub struct Next {
+    pub place: usize,
+    pub stacking: Stacking,
+    pub mis: bool,
+    pub masked: bool,
+}
+
 // What a step would do, worked out before anything changes. Where stop is not 0, that is all it says.
 pub struct Plan {
     pub stop: u8,
-    pub state: State,
+    pub next: Next,
     pub effect: Effect,
     pub seen: Observation,
 }

@@ -1,8 +1,10 @@
-// What one step would do, worked out on plain values before anything changes: the stop, or the new state, the one word that
-// changes, and the observation.
+// What one step would do, worked out on plain values before anything changes: the stop, or where it leads, the one word that
+// changes, and the observation. The stack's array is looked at and never copied.
 use crate::Effect;
+use crate::Next;
 use crate::Plan;
 use crate::Site;
+use crate::Stacking;
 use crate::State;
 use crate::memory::get;
 use crate::memory::word_at;
@@ -21,7 +23,7 @@ ghost use Prim.Native.Nat.{ℕ, _+_, _-_, _*_, _%_, _≤_, _<_};
 ghost use lib.Dec.{eqb, ltb};
 ghost use lib.ListN.{length};
 ghost use Rattle.format.specs.Layout.{startOf, recordOf, tableWith};
-ghost use Rattle.machine.specs.States.{ctlOf, dataOf, viewPlan, isPlain, plainly, called, wayOf, tops, leaves, markOf, Lands, Planned};
+ghost use Rattle.machine.specs.States.{ctlOf, ctlNext, dataOf, viewPlan, isPlain, plainly, called, wayOf, tops, leaves, markOf, Lands};
 ghost use Rattle.model.specs.Machine.{Data, truth, holds, operate, access, strayed, work, onward, to, fork, right, wrong, pop, back, pass, step};
 ghost use Rattle.model.specs.Sites.{scan, homeOf, markOf as callMark};
 ghost use Rattle.model.specs.Table.{Table};
@@ -29,36 +31,39 @@ ghost use Rattle.model.specs.Tests.{pick};
 
 // ---- makers of plans
 
-fn stop(number: u8, state: State) -> Plan
+fn stop(number: u8) -> Plan
     ensures { λ r. ⌜ (r .stop ≡ number) × (r .effect ≡ Effect.None) ⌝ }
 {
     Plan {
         stop: number,
-        state,
+        next: Next {
+            place: 0,
+            stacking: Stacking::Same,
+            mis: false,
+            masked: false,
+        },
         effect: Effect::None,
         seen: Observation::Nothing,
     }
 }
 
-fn go(state: State, effect: Effect, seen: Observation) -> Plan
-    ensures { λ r. ⌜ (r .stop ≡ 0) × (r .state ≡ state) × (r .effect ≡ effect) × (r .seen ≡ seen) ⌝ }
+fn go(next: Next, effect: Effect, seen: Observation) -> Plan
+    ensures { λ r. ⌜ (r .stop ≡ 0) × (r .next ≡ next) × (r .effect ≡ effect) × (r .seen ≡ seen) ⌝ }
 {
     Plan {
         stop: 0,
-        state,
+        next,
         effect,
         seen,
     }
 }
 
-fn at_place(s: State, place: usize, masked: bool) -> State
-    ensures { λ r. ⌜ (ctlOf r ≡ to (ctlOf s) place) × (r .masked ≡ masked) ⌝ }
+fn at_place(s: State, place: usize, masked: bool) -> Next
+    ensures { λ r. ⌜ (ctlNext s r ≡ to (ctlOf s) place) × (r .masked ≡ masked) ⌝ }
 {
-    let stack = s.stack;
-    State {
+    Next {
         place,
-        stack,
-        depth: s.depth,
+        stacking: Stacking::Same,
         mis: s.mis,
         masked,
     }
@@ -77,13 +82,13 @@ fn is_plain(d: Directive) -> bool
 
 // A record that takes 60, observes nothing and goes on at a place.
 fn plain_to(s: State, dir: Directive, place: usize, effect: Effect, masked: bool) -> Plan
-    ensures { λ r. ⌜ ((t : Table) (x : Data) → viewPlan t r x ≡ plainly t dir s place effect masked x) ⌝ }
+    ensures { λ r. ⌜ ((t : Table) (x : Data) → viewPlan t s r x ≡ plainly t dir s place effect masked x) ⌝ }
     ensures lands { λ r. ⌜ ((t : Table) → Lands t effect → Lands t (r .effect)) ⌝ }
 {
     if is_plain(dir) {
         return go(at_place(s, place, masked), effect, Observation::Nothing);
     }
-    stop(22, s)
+    stop(22)
 }
 
 // ---- values
@@ -195,7 +200,7 @@ fn load(
     array: u8,
     index: u8,
 ) -> Plan
-    ensures { λ r. ⌜ viewPlan (tableWith z (now (t .entry))) r (dataOf s (now (regs .entry)) (now (mem .entry)))
+    ensures { λ r. ⌜ viewPlan (tableWith z (now (t .entry))) s r (dataOf s (now (regs .entry)) (now (mem .entry)))
         ≡ onward (work (tableWith z (now (t .entry))) (Simple.Load dest array index) dir (s .mis) (dataOf s (now (regs .entry)) (now (mem .entry)))) (to (ctlOf s) next) ⌝ }
     ensures lands { λ r. ⌜ Lands (tableWith z (now (t .entry))) (r .effect) ⌝ }
 {
@@ -203,7 +208,7 @@ fn load(
     let mis = s.mis;
     let a = access_to(t, z, array, i, mis, dir);
     match a {
-        Access::Bad(n) => stop(n, s),
+        Access::Bad(n) => stop(n),
         Access::Word(b, j) => {
             let v = word_at(t, z, mem, b, j);
             let masked = s.masked;
@@ -227,7 +232,7 @@ fn store(
     index: u8,
     source: u8,
 ) -> Plan
-    ensures { λ r. ⌜ ((m : List ℕ) → viewPlan (tableWith z (now (t .entry))) r (dataOf s (now (regs .entry)) m)
+    ensures { λ r. ⌜ ((m : List ℕ) → viewPlan (tableWith z (now (t .entry))) s r (dataOf s (now (regs .entry)) m)
         ≡ onward (work (tableWith z (now (t .entry))) (Simple.Store array index source) dir (s .mis) (dataOf s (now (regs .entry)) m)) (to (ctlOf s) next)) ⌝ }
     ensures lands { λ r. ⌜ Lands (tableWith z (now (t .entry))) (r .effect) ⌝ }
 {
@@ -235,7 +240,7 @@ fn store(
     let mis = s.mis;
     let a = access_to(t, z, array, i, mis, dir);
     match a {
-        Access::Bad(n) => stop(n, s),
+        Access::Bad(n) => stop(n),
         Access::Word(b, j) => {
             let v = get(regs, source as usize);
             let masked = s.masked;
@@ -249,17 +254,17 @@ fn store(
 }
 
 fn init(s: State, next: usize, dir: Directive) -> Plan
-    ensures { λ r. ⌜ ((t : Table) (m n : List ℕ) → viewPlan t r (dataOf s m n) ≡ onward (work t Simple.Init dir (s .mis) (dataOf s m n)) (to (ctlOf s) next)) ⌝ }
+    ensures { λ r. ⌜ ((t : Table) (m n : List ℕ) → viewPlan t s r (dataOf s m n) ≡ onward (work t Simple.Init dir (s .mis) (dataOf s m n)) (to (ctlOf s) next)) ⌝ }
     ensures lands { λ r. ⌜ ((t : Table) → Lands t (r .effect)) ⌝ }
 {
     if s.mis {
-        return stop(23, s);
+        return stop(23);
     }
     plain_to(s, dir, next, Effect::None, false)
 }
 
 fn updated(s: State, next: usize, dir: Directive, held: bool) -> Plan
-    ensures { λ r. ⌜ ((t : Table) (x : Data) → viewPlan t r x ≡ plainly t dir s next Effect.None (pick held (s .masked) true) x) ⌝ }
+    ensures { λ r. ⌜ ((t : Table) (x : Data) → viewPlan t s r x ≡ plainly t dir s next Effect.None (pick held (s .masked) true) x) ⌝ }
     ensures lands { λ r. ⌜ ((t : Table) → Lands t (r .effect)) ⌝ }
 {
     if held {
@@ -271,7 +276,7 @@ fn updated(s: State, next: usize, dir: Directive, held: bool) -> Plan
 
 // A register is written: the value that a record other than LOAD gives its dest.
 fn write(s: State, next: usize, dir: Directive, dest: u8, v: u32) -> Plan
-    ensures { λ r. ⌜ ((t : Table) (x : Data) → viewPlan t r x ≡ plainly t dir s next (Effect.Register dest v) (s .masked) x) ⌝ }
+    ensures { λ r. ⌜ ((t : Table) (x : Data) → viewPlan t s r x ≡ plainly t dir s next (Effect.Register dest v) (s .masked) x) ⌝ }
     ensures lands { λ r. ⌜ ((t : Table) → Lands t (r .effect)) ⌝ }
 {
     let masked = s.masked;
@@ -288,7 +293,7 @@ fn simple(
     mem: &[u32],
     r: Simple,
 ) -> Plan
-    ensures { λ p. ⌜ viewPlan (tableWith z (now (t .entry))) p (dataOf s (now (regs .entry)) (now (mem .entry)))
+    ensures { λ p. ⌜ viewPlan (tableWith z (now (t .entry))) s p (dataOf s (now (regs .entry)) (now (mem .entry)))
         ≡ onward (work (tableWith z (now (t .entry))) r dir (s .mis) (dataOf s (now (regs .entry)) (now (mem .entry)))) (to (ctlOf s) next) ⌝ }
     ensures lands { λ p. ⌜ Lands (tableWith z (now (t .entry))) (p .effect) ⌝ }
 {
@@ -346,42 +351,38 @@ fn simple(
 // ---- control
 
 // The stack with one more place on it.
-fn pushed(s: State, q: usize, place: usize) -> State
-    requires { ⌜ (s .depth < 31) × (q < 65536) ⌝ }
-    ensures { λ r. ⌜ (ctlOf r ≡ called (ctlOf s) q place) × (r .masked ≡ s .masked) ⌝ }
+fn pushed(s: State, q: usize, place: usize) -> Next
+    requires { ⌜ q < 65536 ⌝ }
+    ensures { λ r. ⌜ (ctlNext s r ≡ called (ctlOf s) q place) × (r .masked ≡ s .masked) ⌝ }
 {
-    let mut stack = s.stack;
-    let k = s.depth as usize;
-    stack[k] = (q % 65536) as u16;
-    State {
+    Next {
         place,
-        stack,
-        depth: s.depth + 1,
+        stacking: Stacking::Push((q % 65536) as u16),
         mis: s.mis,
         masked: s.masked,
     }
 }
 
 fn call(s: State, next: usize, dir: Directive, place: usize) -> Plan
-    requires { ⌜ (s .depth < 31) × (next < 65536) ⌝ }
-    ensures { λ r. ⌜ ((t : Table) (m n : List ℕ) → viewPlan t r (dataOf s m n) ≡ pass t dir (dataOf s m n) (called (ctlOf s) next place)) ⌝ }
+    requires { ⌜ next < 65536 ⌝ }
+    ensures { λ r. ⌜ ((t : Table) (m n : List ℕ) → viewPlan t s r (dataOf s m n) ≡ pass t dir (dataOf s m n) (called (ctlOf s) next place)) ⌝ }
     ensures lands { λ r. ⌜ ((t : Table) → Lands t (r .effect)) ⌝ }
 {
     if is_plain(dir) {
         return go(pushed(s, next, place), Effect::None, Observation::Nothing);
     }
-    stop(22, s)
+    stop(22)
 }
 
 // IF and WHILE on a register's value: way 1 goes to `yes`, way 0 to `no`.
 fn forked(s: State, dir: Directive, v: u32, yes: usize, no: usize) -> Plan
-    ensures { λ r. ⌜ ((t : Table) (m n : List ℕ) → viewPlan t r (dataOf s m n) ≡ fork t v yes no (ctlOf s) dir (dataOf s m n)) ⌝ }
+    ensures { λ r. ⌜ ((t : Table) (m n : List ℕ) → viewPlan t s r (dataOf s m n) ≡ fork t v yes no (ctlOf s) dir (dataOf s m n)) ⌝ }
     ensures lands { λ r. ⌜ ((t : Table) → Lands t (r .effect)) ⌝ }
 {
     match dir {
-        Directive::Plain => stop(22, s),
-        Directive::Stray(a, i) => stop(22, s),
-        Directive::Back(p) => stop(22, s),
+        Directive::Plain => stop(22),
+        Directive::Stray(a, i) => stop(22),
+        Directive::Back(p) => stop(22),
         Directive::Branch(way) => go(
             went(s, way, v, yes, no),
             Effect::None,
@@ -406,15 +407,13 @@ fn mis_by(mis: bool, held: bool) -> bool
 }
 
 // Misspeculating becomes yes if the way differs from the register.
-fn went(s: State, way: bool, v: u32, yes: usize, no: usize) -> State
-    ensures { λ r. ⌜ (ctlOf r ≡ wayOf (ctlOf s) way v yes no) × (r .masked ≡ s .masked) ⌝ }
+fn went(s: State, way: bool, v: u32, yes: usize, no: usize) -> Next
+    ensures { λ r. ⌜ (ctlNext s r ≡ wayOf (ctlOf s) way v yes no) × (r .masked ≡ s .masked) ⌝ }
 {
-    let stack = s.stack;
     let mis = s.mis;
-    State {
+    Next {
         place: place_by(way, yes, no),
-        stack,
-        depth: s.depth,
+        stacking: Stacking::Same,
         mis: mis_by(mis, condition(v, way)),
         masked: s.masked,
     }
@@ -493,18 +492,16 @@ fn masked_by(mark: bool, masked: bool) -> bool
 
 // A wrong return: the stack is emptied, and the CALL that is returned to decides about the flag.
 fn astray(s: State, q: usize, site: Site) -> Plan
-    ensures { λ r. ⌜ ((t : Table) (m n : List ℕ) → viewPlan t r (dataOf s m n) ≡ wrong t (markOf site) q (dataOf s m n)) ⌝ }
+    ensures { λ r. ⌜ ((t : Table) (m n : List ℕ) → viewPlan t s r (dataOf s m n) ≡ wrong t (markOf site) q (dataOf s m n)) ⌝ }
     ensures lands { λ r. ⌜ ((t : Table) → Lands t (r .effect)) ⌝ }
 {
     match site {
-        Site::Nowhere => stop(25, s),
+        Site::Nowhere => stop(25),
         Site::Marked(mark) => {
             let masked = s.masked;
-            let stack = s.stack;
-            let lost = State {
+            let lost = Next {
                 place: q,
-                stack,
-                depth: 0,
+                stacking: Stacking::Clear,
                 mis: true,
                 masked: masked_by(mark, masked),
             };
@@ -529,26 +526,12 @@ fn top_is(s: State, q: usize) -> bool
     stack[k] as usize == q
 }
 
-pub(crate) fn one_less(n: u8) -> u8
-    ensures { λ r. ⌜ r ≡ n - 1 ⌝ }
+fn popped(s: State, q: usize) -> Next
+    ensures { λ r. ⌜ (ctlNext s r ≡ leaves (ctlOf s) q) × (r .masked ≡ s .masked) ⌝ }
 {
-    if n == 0 {
-        return 0;
-    }
-    n - 1
-}
-
-fn popped(s: State, q: usize) -> State
-    requires { ⌜ tops (ctlOf s .stack) q ≡ true ⌝ }
-    ensures { λ r. ⌜ (ctlOf r ≡ leaves (ctlOf s) q) × (r .masked ≡ s .masked) ⌝ }
-{
-    let stack = s.stack;
-    let depth = s.depth;
-    let below = one_less(depth);
-    State {
+    Next {
         place: q,
-        stack,
-        depth: below,
+        stacking: Stacking::Pop,
         mis: s.mis,
         masked: s.masked,
     }
@@ -557,7 +540,7 @@ fn popped(s: State, q: usize) -> State
 // RETURN to q: the top of the stack first, then the places that follow a CALL of this function.
 fn back_to(t: &[u8], z: Sizes, s: State, q: usize) -> Plan
     requires { ⌜ length (now t) ≤ 32768 ⌝ }
-    ensures { λ r. ⌜ ((m n : List ℕ) → viewPlan (tableWith z (now (t .entry))) r (dataOf s m n) ≡ right (tableWith z (now (t .entry))) (pop (ctlOf s .stack) q) q (ctlOf s) (dataOf s m n)) ⌝ }
+    ensures { λ r. ⌜ ((m n : List ℕ) → viewPlan (tableWith z (now (t .entry))) s r (dataOf s m n) ≡ right (tableWith z (now (t .entry))) (pop (ctlOf s .stack) q) q (ctlOf s) (dataOf s m n)) ⌝ }
     ensures lands { λ r. ⌜ ((t : Table) → Lands t (r .effect)) ⌝ }
 {
     if top_is(s, q) {
@@ -570,13 +553,13 @@ fn back_to(t: &[u8], z: Sizes, s: State, q: usize) -> Plan
 
 fn returning(t: &[u8], z: Sizes, s: State, dir: Directive) -> Plan
     requires { ⌜ length (now t) ≤ 32768 ⌝ }
-    ensures { λ r. ⌜ ((m n : List ℕ) → viewPlan (tableWith z (now (t .entry))) r (dataOf s m n) ≡ back (tableWith z (now (t .entry))) (ctlOf s) dir (dataOf s m n)) ⌝ }
+    ensures { λ r. ⌜ ((m n : List ℕ) → viewPlan (tableWith z (now (t .entry))) s r (dataOf s m n) ≡ back (tableWith z (now (t .entry))) (ctlOf s) dir (dataOf s m n)) ⌝ }
     ensures lands { λ r. ⌜ ((t : Table) → Lands t (r .effect)) ⌝ }
 {
     match dir {
-        Directive::Plain => stop(22, s),
-        Directive::Branch(b) => stop(22, s),
-        Directive::Stray(a, i) => stop(22, s),
+        Directive::Plain => stop(22),
+        Directive::Branch(b) => stop(22),
+        Directive::Stray(a, i) => stop(22),
         Directive::Back(q) => back_to(t, z, s, q),
     }
 }
@@ -584,7 +567,7 @@ fn returning(t: &[u8], z: Sizes, s: State, dir: Directive) -> Plan
 // ---- the plan of one step
 
 fn pass_to(s: State, dir: Directive, place: usize) -> Plan
-    ensures { λ r. ⌜ ((t : Table) (m n : List ℕ) → viewPlan t r (dataOf s m n) ≡ pass t dir (dataOf s m n) (to (ctlOf s) place)) ⌝ }
+    ensures { λ r. ⌜ ((t : Table) (m n : List ℕ) → viewPlan t s r (dataOf s m n) ≡ pass t dir (dataOf s m n) (to (ctlOf s) place)) ⌝ }
     ensures lands { λ r. ⌜ ((t : Table) → Lands t (r .effect)) ⌝ }
 {
     let masked = s.masked;
@@ -593,8 +576,8 @@ fn pass_to(s: State, dir: Directive, place: usize) -> Plan
 
 // What the record at the state's place would do under the directive. Where none can be read, RETURN stands for it.
 pub(crate) fn plan(t: &[u8], z: Sizes, s: State, dir: Directive, regs: &[u32], mem: &[u32]) -> Plan
-    requires { ⌜ Planned z (now t) s ⌝ }
-    ensures { λ r. ⌜ viewPlan (tableWith z (now (t .entry))) r (dataOf s (now (regs .entry)) (now (mem .entry)))
+    requires { ⌜ length (now t) ≤ 32768 ⌝ }
+    ensures { λ r. ⌜ viewPlan (tableWith z (now (t .entry))) s r (dataOf s (now (regs .entry)) (now (mem .entry)))
         ≡ step (tableWith z (now (t .entry))) (ctlOf s) dir (dataOf s (now (regs .entry)) (now (mem .entry))) ⌝ }
     ensures lands { λ r. ⌜ Lands (tableWith z (now (t .entry))) (r .effect) ⌝ }
 {

@@ -10,8 +10,9 @@ use crate::bytes::directive_at;
 use crate::bytes::put_observation;
 use crate::bytes::size_of;
 use crate::memory::apply;
-use crate::plans::one_less;
 use crate::plans::plan;
+use crate::states::moved;
+use crate::states::start;
 use model::Directive;
 use model::Sizes;
 ghost use mathlib.Core.Path.{_≡_};
@@ -19,15 +20,12 @@ ghost use Prim.Native.Nat.{_+_, _-_, _≤_, _<_};
 ghost use lib.ListN.{length};
 ghost use Rattle.reading.specs.Reading.{readAt};
 ghost use Rattle.reading.specs.declared.Answer.the-variants.{Reads};
-ghost use mathlib.Core.Bool.{false};
-ghost use Rattle.format.specs.Layout.{wordsFrom, tableWith};
-ghost use Rattle.machine.specs.States.{ctlOf};
-ghost use Rattle.model.specs.Machine.{startCtl};
+ghost use Rattle.format.specs.Layout.{wordsFrom};
 ghost use Rattle.machine.specs.Runs.{ran, total, started};
 ghost use Rattle.machine.specs.Turns.{lent, Acts, Turns, Ready};
 
 fn halted(stop: u8, state: State, seen: usize) -> Acted
-    ensures { λ r. ⌜ (r .stop ≡ stop) × (r .state ≡ state) ⌝ }
+    ensures { λ r. ⌜ (r .stop ≡ stop) × (r .state ≡ state) × (r .seen ≡ seen) ⌝ }
 {
     Acted { stop, state, seen }
 }
@@ -69,10 +67,10 @@ fn act(
     put_observation(obs, seen, o);
     let e = p.effect;
     apply(t, z, e, regs, mem);
-    let state = p.state;
+    let next = p.next;
     Acted {
         stop: 0,
-        state,
+        state: moved(s, next),
         seen: seen + k,
     }
 }
@@ -122,19 +120,6 @@ fn one_turn(
                 seen: w.seen,
             }
         }
-    }
-}
-
-fn start(t: &[u8], z: Sizes) -> State
-    ensures { λ r. ⌜ (ctlOf r ≡ startCtl (tableWith z (now (t .entry))) false) × (r .masked ≡ false) ⌝ }
-{
-    let entry = one_less(z.functions);
-    State {
-        place: format::start_of(t, z, entry),
-        stack: [0u16; 31],
-        depth: 0,
-        mis: false,
-        masked: false,
     }
 }
 

@@ -36,13 +36,13 @@ go-requires c κs = search needs
 returns : tie.Need-returns
 returns c =
     let a = c .before .before .before .args in
-    (λ t m n. stops t (c .stop .result) (dataOf (a .s) m n) (c .stop .ensures .0) refl ∙ sym (ap (λ (x : Site). wrong t (markOf x) (a .q) (dataOf (a .s) m n)) (c .before .enum-told .given .1)), λ t. lands t (c .stop .result) (c .stop .ensures .1) tt)
+    (λ t m n. stops t (a .s) (c .stop .result) (dataOf (a .s) m n) (c .stop .ensures .0) refl ∙ sym (ap (λ (x : Site). wrong t (markOf x) (a .q) (dataOf (a .s) m n)) (c .before .enum-told .given .1)), λ t. lands t (c .stop .result) (c .stop .ensures .1) tt)
 
 -- src/plans.rt:495:1
 returns-2 : tie.Need-returns-2
 returns-2 c =
-    let a = c .before .before .before .before .before .before .args in
-    (λ t m n. goes t (c .go .result) (dataOf (a .s) m n) (c .go .ensures) (refl, c .before .masked-by .ensures) ∙ sym (ap (λ (x : Site). wrong t (markOf x) (a .q) (dataOf (a .s) m n)) (c .before .before .before .before .site .given .1)), λ t. lands t (c .go .result) (c .go .ensures .2) tt)
+    let a = c .before .before .before .before .before .args in
+    (λ t m n. goes t (a .s) (c .go .result) (dataOf (a .s) m n) (c .go .ensures) (refl, c .before .masked-by .ensures) ∙ sym (ap (λ (x : Site). wrong t (markOf x) (a .q) (dataOf (a .s) m n)) (c .before .before .before .site .given .1)), λ t. lands t (c .go .result) (c .go .ensures .2) tt)
 
 pub astray-spec : {M : Type 1} → statement M
 astray-spec =

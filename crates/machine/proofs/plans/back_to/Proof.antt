@@ -26,7 +26,7 @@ top-is-requires c κs = search needs
 
 -- src/plans.rt:564:19
 popped-requires : tie.Need-popped-requires
-popped-requires c κs = sym (c .before .top-is .ensures) ∙ c .if1 .taken
+popped-requires c κs = search needs
 
 -- src/plans.rt:564:9
 go-requires : tie.Need-go-requires
@@ -37,7 +37,7 @@ returns : tie.Need-returns
 returns c =
     let a = c .before .before .before .before .before .args in
     let T = tableWith (a .z) (a .t .now) in
-    (λ m n. goes T (c .go .result) (dataOf (a .s) m n) (c .go .ensures) (c .before .popped .ensures) ∙ right-top T (a .q) (ctlOf (a .s)) (dataOf (a .s) m n) (sym (c .before .before .before .top-is .ensures) ∙ c .before .before .if1 .taken), λ t. lands t (c .go .result) (c .go .ensures .2) tt)
+    (λ m n. goes T (a .s) (c .go .result) (dataOf (a .s) m n) (c .go .ensures) (c .before .popped .ensures) ∙ right-top T (a .q) (ctlOf (a .s)) (dataOf (a .s) m n) (sym (c .before .before .before .top-is .ensures) ∙ c .before .before .if1 .taken), λ t. lands t (c .go .result) (c .go .ensures .2) tt)
 
 -- src/plans.rt:567:9
 home-requires : tie.Need-home-requires

@@ -29,7 +29,7 @@ go-requires c κs = search needs
 returns : tie.Need-returns
 returns c =
     let a = c .before .before .before .before .args in
-    (λ t m n. goes-plain t (c .go .result) (dataOf (a .s) m n) (a .dir) (sym (c .before .before .before .is-plain .ensures) ∙ c .before .before .if1 .taken) (c .go .ensures) (c .before .pushed .ensures), λ t. lands t (c .go .result) (c .go .ensures .2) tt)
+    (λ t m n. goes-plain t (a .s) (c .go .result) (dataOf (a .s) m n) (a .dir) (sym (c .before .before .before .is-plain .ensures) ∙ c .before .before .if1 .taken) (c .go .ensures) (c .before .pushed .ensures), λ t. lands t (c .go .result) (c .go .ensures .2) tt)
 
 -- src/plans.rt:373:5
 stop-requires : tie.Need-stop-requires
@@ -39,7 +39,7 @@ stop-requires c κs = search needs
 returns-2 : tie.Need-returns-2
 returns-2 c =
     let a = c .before .before .before .args in
-    (λ t m n. stops-plain t (c .stop .result) (dataOf (a .s) m n) (a .dir) (did (dataOf (a .s) m n) Nothing) (called (ctlOf (a .s)) (a .next) (a .place)) (sym (c .before .before .is-plain .ensures) ∙ c .before .if1 .left) (c .stop .ensures .0), λ t. lands t (c .stop .result) (c .stop .ensures .1) tt)
+    (λ t m n. stops-plain t (a .s) (c .stop .result) (dataOf (a .s) m n) (a .dir) (did (dataOf (a .s) m n) Nothing) (called (ctlOf (a .s)) (a .next) (a .place)) (sym (c .before .before .is-plain .ensures) ∙ c .before .if1 .left) (c .stop .ensures .0), λ t. lands t (c .stop .result) (c .stop .ensures .1) tt)
 
 pub call-spec : {M : Type 1} → statement M
 call-spec =

@@ -58,26 +58,26 @@ go-requires c κs = search needs
 returns : tie.Need-returns
 returns c =
     let a = c .before .before .before .args in
-    (λ t m n. stops t (c .stop .result) (dataOf (a .s) m n) (c .stop .ensures .0) refl ∙ sym (ap (λ (d : Directive). fork t (a .v) (a .yes) (a .no) (ctlOf (a .s)) d (dataOf (a .s) m n)) (c .before .enum-told .given .1)), λ t. lands t (c .stop .result) (c .stop .ensures .1) tt)
+    (λ t m n. stops t (a .s) (c .stop .result) (dataOf (a .s) m n) (c .stop .ensures .0) refl ∙ sym (ap (λ (d : Directive). fork t (a .v) (a .yes) (a .no) (ctlOf (a .s)) d (dataOf (a .s) m n)) (c .before .enum-told .given .1)), λ t. lands t (c .stop .result) (c .stop .ensures .1) tt)
 
 -- src/plans.rt:377:1
 returns-2 : tie.Need-returns-2
 returns-2 c =
     let a = c .before .before .before .before .args in
-    (λ t m n. stops t (c .stop2 .result) (dataOf (a .s) m n) (c .stop2 .ensures .0) refl ∙ sym (ap (λ (d : Directive). fork t (a .v) (a .yes) (a .no) (ctlOf (a .s)) d (dataOf (a .s) m n)) (c .before .before .dir .given .1)), λ t. lands t (c .stop2 .result) (c .stop2 .ensures .1) tt)
+    (λ t m n. stops t (a .s) (c .stop2 .result) (dataOf (a .s) m n) (c .stop2 .ensures .0) refl ∙ sym (ap (λ (d : Directive). fork t (a .v) (a .yes) (a .no) (ctlOf (a .s)) d (dataOf (a .s) m n)) (c .before .before .dir .given .1)), λ t. lands t (c .stop2 .result) (c .stop2 .ensures .1) tt)
 
 -- src/plans.rt:377:1
 returns-3 : tie.Need-returns-3
 returns-3 c =
     let a = c .before .before .before .before .args in
-    (λ t m n. stops t (c .stop3 .result) (dataOf (a .s) m n) (c .stop3 .ensures .0) refl ∙ sym (ap (λ (d : Directive). fork t (a .v) (a .yes) (a .no) (ctlOf (a .s)) d (dataOf (a .s) m n)) (c .before .before .dir2 .given .1)), λ t. lands t (c .stop3 .result) (c .stop3 .ensures .1) tt)
+    (λ t m n. stops t (a .s) (c .stop3 .result) (dataOf (a .s) m n) (c .stop3 .ensures .0) refl ∙ sym (ap (λ (d : Directive). fork t (a .v) (a .yes) (a .no) (ctlOf (a .s)) d (dataOf (a .s) m n)) (c .before .before .dir2 .given .1)), λ t. lands t (c .stop3 .result) (c .stop3 .ensures .1) tt)
 
 -- src/plans.rt:377:1
 returns-4 : tie.Need-returns-4
 returns-4 c =
     let a = c .before .before .before .before .before .before .args in
     let g = c .go .ensures in
-    (λ t m n. goes t (c .go .result) (dataOf (a .s) m n) (g .0, g .1, g .2, g .3 ∙ ap Way (c .before .is-true .ensures)) (c .before .before .went .ensures) ∙ sym (ap (λ (d : Directive). fork t (a .v) (a .yes) (a .no) (ctlOf (a .s)) d (dataOf (a .s) m n)) (c .before .before .before .before .dir3 .given .1)), λ t. lands t (c .go .result) (g .2) tt)
+    (λ t m n. goes t (a .s) (c .go .result) (dataOf (a .s) m n) (g .0, g .1, g .2, g .3 ∙ ap Way (c .before .is-true .ensures)) (c .before .before .went .ensures) ∙ sym (ap (λ (d : Directive). fork t (a .v) (a .yes) (a .no) (ctlOf (a .s)) d (dataOf (a .s) m n)) (c .before .before .before .before .dir3 .given .1)), λ t. lands t (c .go .result) (g .2) tt)
 
 pub forked-spec : {M : Type 1} → statement M
 forked-spec =

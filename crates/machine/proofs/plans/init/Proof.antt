@@ -20,7 +20,7 @@ stop-requires c κs = search needs
 returns : tie.Need-returns
 returns c =
     let a = c .before .before .args in
-    (λ t m n. stops t (c .stop .result) (dataOf (a .s) m n) (c .stop .ensures .0) refl ∙ sym (ap (λ (w : Work). onward w (to (ctlOf (a .s)) (a .next))) (picked (a .s .mis) (halt 23) (plain (a .dir) (did (flagged (dataOf (a .s) m n) false) Nothing)) (c .before .if1 .taken))), λ t. lands t (c .stop .result) (c .stop .ensures .1) tt)
+    (λ t m n. stops t (a .s) (c .stop .result) (dataOf (a .s) m n) (c .stop .ensures .0) refl ∙ sym (ap (λ (w : Work). onward w (to (ctlOf (a .s)) (a .next))) (picked (a .s .mis) (halt 23) (plain (a .dir) (did (flagged (dataOf (a .s) m n) false) Nothing)) (c .before .if1 .taken))), λ t. lands t (c .stop .result) (c .stop .ensures .1) tt)
 
 -- src/plans.rt:258:5
 plain-to-requires : tie.Need-plain-to-requires

@@ -61,7 +61,7 @@ returns c =
     let a = c .before .before .before .before .before .before .before .before .before .args in
     let T = tableWith (a .z) (a .t .now) in
     let A = sym (c .before .before .before .before .access-to .ensures ∙ ap (λ (v : ℕ). access T (a .array) v (a .s .mis) (a .dir)) (c .before .before .before .before .before .get .ensures)) ∙ c .before .before .a .given .1 in
-    (load-bad T (c .stop .result) (dataOf (a .s) (a .regs .now) (a .mem .now)) (to (ctlOf (a .s)) (a .next)) (a .dest) (a .array) (a .index) _ (a .s .mis) (a .dir) A (c .stop .ensures .0), lands T (c .stop .result) (c .stop .ensures .1) tt)
+    (load-bad T (a .s) (c .stop .result) (dataOf (a .s) (a .regs .now) (a .mem .now)) (to (ctlOf (a .s)) (a .next)) (a .dest) (a .array) (a .index) _ (a .s .mis) (a .dir) A (c .stop .ensures .0), lands T (c .stop .result) (c .stop .ensures .1) tt)
 
 -- src/plans.rt:186:1
 returns-2 : tie.Need-returns-2
@@ -71,7 +71,7 @@ returns-2 c =
     let A = sym (c .before .before .before .before .before .before .access-to .ensures ∙ ap (λ (v : ℕ). access T (a .array) v (a .s .mis) (a .dir)) (c .before .before .before .before .before .before .before .get .ensures)) ∙ c .before .before .before .before .a2 .given .1 in
     let X = dataOf (a .s) (a .regs .now) (a .mem .now) in
     let g = c .go .ensures in
-    (goes T (c .go .result) X (g .0, g .1, g .2 ∙ ap (Register (a .dest)) (c .before .before .word-at .ensures), g .3 ∙ ap (Address (a .array)) (c .before .before .before .before .before .before .before .get .ensures)) (c .before .at-place .ensures) ∙ load-word T X (to (ctlOf (a .s)) (a .next)) (a .dest) (a .array) (a .index) _ _ (a .s .mis) (a .dir) A, lands T (c .go .result) (g .2) tt)
+    (goes T (a .s) (c .go .result) X (g .0, g .1, g .2 ∙ ap (Register (a .dest)) (c .before .before .word-at .ensures), g .3 ∙ ap (Address (a .array)) (c .before .before .before .before .before .before .before .get .ensures)) (c .before .at-place .ensures) ∙ load-word T X (to (ctlOf (a .s)) (a .next)) (a .dest) (a .array) (a .index) _ _ (a .s .mis) (a .dir) A, lands T (c .go .result) (g .2) tt)
 
 pub load-spec : {M : Type 1} → statement M
 load-spec =

@@ -27,7 +27,7 @@ go-requires c κs = search needs
 
 -- src/plans.rt:84:9
 returns : tie.Need-returns
-returns c = (λ t x. goes-plain t (c .go .result) x (c .before .before .before .before .args .dir) (sym (c .before .before .before .is-plain .ensures) ∙ c .before .before .if1 .taken) (c .go .ensures) (c .before .at-place .ensures), λ t l. lands t (c .go .result) (c .go .ensures .2) l)
+returns c = (λ t x. goes-plain t (c .before .before .before .before .args .s) (c .go .result) x (c .before .before .before .before .args .dir) (sym (c .before .before .before .is-plain .ensures) ∙ c .before .before .if1 .taken) (c .go .ensures) (c .before .at-place .ensures), λ t l. lands t (c .go .result) (c .go .ensures .2) l)
 
 -- src/plans.rt:86:5
 stop-requires : tie.Need-stop-requires
@@ -37,7 +37,7 @@ stop-requires c κs = search needs
 returns-2 : tie.Need-returns-2
 returns-2 c =
     let a = c .before .before .before .args in
-    (λ t x. stops-plain t (c .stop .result) x (a .dir) (did (flagged (applied t (a .effect) x) (a .masked)) Nothing) (to (ctlOf (a .s)) (a .place)) (sym (c .before .before .is-plain .ensures) ∙ c .before .if1 .left) (c .stop .ensures .0), λ t l. lands t (c .stop .result) (c .stop .ensures .1) tt)
+    (λ t x. stops-plain t (a .s) (c .stop .result) x (a .dir) (did (flagged (applied t (a .effect) x) (a .masked)) Nothing) (to (ctlOf (a .s)) (a .place)) (sym (c .before .before .is-plain .ensures) ∙ c .before .if1 .left) (c .stop .ensures .0), λ t l. lands t (c .stop .result) (c .stop .ensures .1) tt)
 
 pub plain-to-spec : {M : Type 1} → statement M
 plain-to-spec =

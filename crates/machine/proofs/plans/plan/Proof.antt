@@ -58,7 +58,7 @@ call-requires c κs =
     let a = c .before .before .before .before .before .before .before .before .before .before .before .args in
     let t = a .t .now in
     let D = known (a .z) t (a .s .place) (c .before .before .before .before .before .before .before .decode .ensures) (c .before .before .before .before .before .d2 .given .1) (c .before .before .r2 .given .1) in
-    (c .before .before .before .before .before .before .before .before .before .before .before .pre .room _ _ (record-got (a .z) t (a .s .place) D), omega (arith, good (a .z) t (a .s .place) D .whole, c .before .before .before .before .before .before .before .before .before .before .before .pre .short))
+    omega (arith, good (a .z) t (a .s .place) D .whole, c .before .before .before .before .before .before .before .before .before .before .before .pre)
 
 -- src/plans.rt:608:26
 enum-known-r-3 : tie.Need-enum-known-r-3

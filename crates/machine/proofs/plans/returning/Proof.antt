@@ -49,21 +49,21 @@ returns : tie.Need-returns
 returns c =
     let a = c .before .before .before .before .args in
     let T = tableWith (a .z) (a .t .now) in
-    (λ m n. stops T (c .stop .result) (dataOf (a .s) m n) (c .stop .ensures .0) refl ∙ sym (ap (λ (d : Directive). back T (ctlOf (a .s)) d (dataOf (a .s) m n)) (c .before .enum-told .given .1)), λ t. lands t (c .stop .result) (c .stop .ensures .1) tt)
+    (λ m n. stops T (a .s) (c .stop .result) (dataOf (a .s) m n) (c .stop .ensures .0) refl ∙ sym (ap (λ (d : Directive). back T (ctlOf (a .s)) d (dataOf (a .s) m n)) (c .before .enum-told .given .1)), λ t. lands t (c .stop .result) (c .stop .ensures .1) tt)
 
 -- src/plans.rt:571:1
 returns-2 : tie.Need-returns-2
 returns-2 c =
     let a = c .before .before .before .before .before .args in
     let T = tableWith (a .z) (a .t .now) in
-    (λ m n. stops T (c .stop2 .result) (dataOf (a .s) m n) (c .stop2 .ensures .0) refl ∙ sym (ap (λ (d : Directive). back T (ctlOf (a .s)) d (dataOf (a .s) m n)) (c .before .before .dir .given .1)), λ t. lands t (c .stop2 .result) (c .stop2 .ensures .1) tt)
+    (λ m n. stops T (a .s) (c .stop2 .result) (dataOf (a .s) m n) (c .stop2 .ensures .0) refl ∙ sym (ap (λ (d : Directive). back T (ctlOf (a .s)) d (dataOf (a .s) m n)) (c .before .before .dir .given .1)), λ t. lands t (c .stop2 .result) (c .stop2 .ensures .1) tt)
 
 -- src/plans.rt:571:1
 returns-3 : tie.Need-returns-3
 returns-3 c =
     let a = c .before .before .before .before .before .args in
     let T = tableWith (a .z) (a .t .now) in
-    (λ m n. stops T (c .stop3 .result) (dataOf (a .s) m n) (c .stop3 .ensures .0) refl ∙ sym (ap (λ (d : Directive). back T (ctlOf (a .s)) d (dataOf (a .s) m n)) (c .before .before .dir2 .given .1)), λ t. lands t (c .stop3 .result) (c .stop3 .ensures .1) tt)
+    (λ m n. stops T (a .s) (c .stop3 .result) (dataOf (a .s) m n) (c .stop3 .ensures .0) refl ∙ sym (ap (λ (d : Directive). back T (ctlOf (a .s)) d (dataOf (a .s) m n)) (c .before .before .dir2 .given .1)), λ t. lands t (c .stop3 .result) (c .stop3 .ensures .1) tt)
 
 -- src/plans.rt:571:1
 returns-4 : tie.Need-returns-4

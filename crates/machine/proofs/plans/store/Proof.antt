@@ -55,7 +55,7 @@ returns c =
     let a = c .before .before .before .before .before .before .before .before .args in
     let T = tableWith (a .z) (a .t .now) in
     let A = sym (c .before .before .before .before .access-to .ensures ∙ ap (λ (v : ℕ). access T (a .array) v (a .s .mis) (a .dir)) (c .before .before .before .before .before .get .ensures)) ∙ c .before .before .a .given .1 in
-    (λ m. store-bad T (c .stop .result) (dataOf (a .s) (a .regs .now) m) (to (ctlOf (a .s)) (a .next)) (a .array) (a .index) (a .source) _ (a .s .mis) (a .dir) A (c .stop .ensures .0), lands T (c .stop .result) (c .stop .ensures .1) tt)
+    (λ m. store-bad T (a .s) (c .stop .result) (dataOf (a .s) (a .regs .now) m) (to (ctlOf (a .s)) (a .next)) (a .array) (a .index) (a .source) _ (a .s .mis) (a .dir) A (c .stop .ensures .0), lands T (c .stop .result) (c .stop .ensures .1) tt)
 
 -- src/plans.rt:219:1
 returns-2 : tie.Need-returns-2
@@ -64,7 +64,7 @@ returns-2 c =
     let T = tableWith (a .z) (a .t .now) in
     let A = sym (c .before .before .before .before .before .before .access-to .ensures ∙ ap (λ (v : ℕ). access T (a .array) v (a .s .mis) (a .dir)) (c .before .before .before .before .before .before .before .get .ensures)) ∙ c .before .before .before .before .a2 .given .1 in
     let g = c .go .ensures in
-    (λ m. goes T (c .go .result) (dataOf (a .s) (a .regs .now) m) (g .0, g .1, g .2 ∙ ap (Word (c .before .before .before .before .a2 .given .0 .0) (c .before .before .before .before .a2 .given .0 .1 .0)) (c .before .before .get2 .ensures), g .3 ∙ ap (Address (a .array)) (c .before .before .before .before .before .before .before .get .ensures)) (c .before .at-place .ensures) ∙ store-word T (dataOf (a .s) (a .regs .now) m) (to (ctlOf (a .s)) (a .next)) (a .array) (a .index) (a .source) _ _ (a .s .mis) (a .dir) A, lands T (c .go .result) (g .2) (touched T (a .array) _ (a .s .mis) (a .dir) A))
+    (λ m. goes T (a .s) (c .go .result) (dataOf (a .s) (a .regs .now) m) (g .0, g .1, g .2 ∙ ap (Word (c .before .before .before .before .a2 .given .0 .0) (c .before .before .before .before .a2 .given .0 .1 .0)) (c .before .before .get2 .ensures), g .3 ∙ ap (Address (a .array)) (c .before .before .before .before .before .before .before .get .ensures)) (c .before .at-place .ensures) ∙ store-word T (dataOf (a .s) (a .regs .now) m) (to (ctlOf (a .s)) (a .next)) (a .array) (a .index) (a .source) _ _ (a .s .mis) (a .dir) A, lands T (c .go .result) (g .2) (touched T (a .array) _ (a .s .mis) (a .dir) A))
 
 pub store-spec : {M : Type 1} → statement M
 store-spec =

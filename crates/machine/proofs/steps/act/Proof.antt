@@ -2,7 +2,7 @@ use Prim.Native.Nat.{ℕ, _+_}
 use native.Mathlib.Omega.{arith}
 use mathlib.Core.Path.{_≡_, refl, sym, ap, subst, _∙_}
 use Rattle.machine.specs.Turns.{lent}
-use Rattle.machine.proofs.Stepping.{act-stops, act-full, act-goes}
+use Rattle.machine.proofs.Stepping.{act-stops, act-full, act-goes, room-for}
 use borrow.Author.Needs.{needs}
 use Rattle.machine.proofs.steps.act.Statement.{statement}
 use Rattle.machine.proofs.steps.act.Tie as tie
@@ -13,8 +13,9 @@ use Rattle.machine.proofs.bytes.size_of.Reads as size-of-reads
 use Rattle.machine.proofs.memory.apply.Reads as apply-reads
 use Rattle.machine.proofs.plans.plan.Reads as plan-reads
 use Rattle.machine.proofs.steps.halted.Reads as halted-reads
-
 -- src/steps.rt:55:9
+use Rattle.machine.proofs.states.moved.Reads as moved-reads
+
 plan-requires : tie.Need-plan-requires
 plan-requires c κs = search needs
 
@@ -34,7 +35,7 @@ same-length-2 c = search needs
 returns : tie.Need-returns
 returns c =
     let a = c .before .before .before .before .before .before .before .before .before .before .args in
-    act-stops (a .z) (a .t .now) (a .s) (a .dir) (a .seen) (lent (a .regs .now) (a .mem .now) (a .obs .now)) (c .before .before .before .plan .result) (c .halted .result) (c .before .before .before .plan .ensures .0) (c .before .if1 .taken) (c .halted .ensures .0) (c .halted .ensures .1)
+    act-stops (a .z) (a .t .now) (a .s) (a .dir) (a .seen) (lent (a .regs .now) (a .mem .now) (a .obs .now)) (c .before .before .before .plan .result) (c .halted .result) (c .before .before .before .plan .ensures .0) (c .before .if1 .taken) (c .halted .ensures .0) (c .halted .ensures .1) (c .halted .ensures .2)
 
 -- src/steps.rt:60:9
 size-of-requires : tie.Need-size-of-requires
@@ -60,7 +61,7 @@ same-length-4 c = search needs
 returns-2 : tie.Need-returns-2
 returns-2 c =
     let a = c .before .before .before .before .before .before .before .before .before .before .before .before .args in
-    act-full (a .z) (a .t .now) (a .s) (a .dir) (a .seen) (lent (a .regs .now) (a .mem .now) (a .obs .now)) (c .before .before .before .before .before .plan .result) (c .halted2 .result) (c .before .before .before .before .before .plan .ensures .0) (c .before .before .before .if1 .left) (omega (arith, c .before .if2 .taken, c .before .before .size-of .ensures .0)) (c .halted2 .ensures .0) (c .halted2 .ensures .1)
+    act-full (a .z) (a .t .now) (a .s) (a .dir) (a .seen) (lent (a .regs .now) (a .mem .now) (a .obs .now)) (c .before .before .before .before .before .plan .result) (c .halted2 .result) (c .before .before .before .before .before .plan .ensures .0) (c .before .before .before .if1 .left) (omega (arith, c .before .if2 .taken, c .before .before .size-of .ensures .0)) (c .halted2 .ensures .0) (c .halted2 .ensures .1) (c .halted2 .ensures .2)
 
 -- src/steps.rt:64:5
 put-observation-requires : tie.Need-put-observation-requires
@@ -70,10 +71,17 @@ put-observation-requires c κs = search needs
 apply-requires : tie.Need-apply-requires
 apply-requires c κs = search needs
 
+-- src/steps.rt:73:16
+moved-requires : tie.Need-moved-requires
+moved-requires c κs =
+    let a = c .before .before .before .before .before .before .before .before .before .before .before .before .before .before .before .before .before .before .before .before .before .before .before .args in
+    let p = c .before .before .before .before .before .before .before .before .before .before .before .before .before .before .before .before .plan in
+    room-for (a .z) (a .t .now) (a .s) (a .dir) (lent (a .regs .now) (a .mem .now) (a .obs .now)) (p .result) (p .ensures .0) (c .before .before .before .before .before .before .before .before .before .before .before .before .before .before .before .before .before .before .before .before .before .before .before .pre .0) (c .before .before .before .before .before .before .before .before .before .before .before .before .before .before .if1 .left)
+
 -- src/steps.rt:72:15
 add-t19 : tie.Need-add-t19
 add-t19 c =
-    omega (arith, c .before .before .before .before .before .before .before .before .before .before .before .before .if2 .left, c .before .before .before .before .before .before .before .before .before .before .before .before .before .size-of .ensures .0, c .before .before .before .before .before .before .before .before .before .before .before .before .before .size-of .ensures .1, c .before .before .before .before .before .before .before .before .before .before .before .before .before .before .before .before .before .before .before .before .before .before .before .pre .1, c .before .before .before .before .before .before .before .before .before .before .before .before .before .before .before .before .before .before .before .before .before .before .before .good .1 .1 .1 .1 .1 .1 .1 .0 .0)
+    omega (arith, c .before .before .before .before .before .before .before .before .before .before .before .before .before .if2 .left, c .before .before .before .before .before .before .before .before .before .before .before .before .before .before .size-of .ensures .0, c .before .before .before .before .before .before .before .before .before .before .before .before .before .before .size-of .ensures .1, c .before .before .before .before .before .before .before .before .before .before .before .before .before .before .before .before .before .before .before .before .before .before .before .before .pre .1, c .before .before .before .before .before .before .before .before .before .before .before .before .before .before .before .before .before .before .before .before .before .before .before .before .good .1 .1 .1 .1 .1 .1 .1 .0 .0)
 
 -- src/steps.rt:40:1
 same-length-5 : tie.Need-same-length-5
@@ -90,9 +98,9 @@ same-length-7 c = search needs
 -- src/steps.rt:40:1
 returns-3 : tie.Need-returns-3
 returns-3 c =
-    let a = c .before .before .before .before .before .before .before .before .before .before .before .before .before .before .before .before .before .before .before .before .before .before .before .args in
-    let k = c .before .before .before .before .before .before .before .before .before .before .before .before .before .size-of .ensures .0 in
-    act-goes (a .z) (a .t .now) (a .s) (a .dir) (a .seen) (lent (a .regs .now) (a .mem .now) (a .obs .now)) (c .before .before .before .before .before .before .before .before .before .before .before .before .before .before .before .before .plan .result) _ (c .before .before .before .before .before .before .before .before .before .before .before .before .before .before .before .before .plan .ensures .0) _ _ _ (c .before .before .before .before .before .before .before .before .before .before .before .before .before .before .if1 .left) (omega (arith, k, c .before .before .before .before .before .before .before .before .before .before .before .before .if2 .left)) (c .before .before .before .before .before .apply .ensures) (c .before .before .before .before .before .before .before .before .before .before .put-observation .ensures) refl refl (ap (λ (n : ℕ). a .seen + n) k)
+    let a = c .before .before .before .before .before .before .before .before .before .before .before .before .before .before .before .before .before .before .before .before .before .before .before .before .args in
+    let k = c .before .before .before .before .before .before .before .before .before .before .before .before .before .before .size-of .ensures .0 in
+    act-goes (a .z) (a .t .now) (a .s) (a .dir) (a .seen) (lent (a .regs .now) (a .mem .now) (a .obs .now)) (c .before .before .before .before .before .before .before .before .before .before .before .before .before .before .before .before .before .plan .result) _ (c .before .before .before .before .before .before .before .before .before .before .before .before .before .before .before .before .before .plan .ensures .0) _ _ _ (c .before .before .before .before .before .before .before .before .before .before .before .before .before .before .before .if1 .left) (omega (arith, k, c .before .before .before .before .before .before .before .before .before .before .before .before .before .if2 .left)) (c .before .before .before .before .before .before .apply .ensures) (c .before .before .before .before .before .before .before .before .before .before .before .put-observation .ensures) refl (c .moved .ensures) (ap (λ (n : ℕ). a .seen + n) k)
 
 pub act-spec : {M : Type 1} → statement M
 act-spec =
@@ -111,6 +119,7 @@ act-spec =
     returns-2
     put-observation-requires
     apply-requires
+    moved-requires
     add-t19
     same-length-5
     same-length-6

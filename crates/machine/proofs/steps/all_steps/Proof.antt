@@ -18,7 +18,7 @@ use Rattle.machine.proofs.steps.all_steps.Tie as tie
 use Rattle.machine.proofs.steps.all_steps.Reads as reads
 use Rattle.machine.proofs.steps.all_steps.Lts as lts
 use Rattle.machine.proofs.steps.one_turn.Reads as one-turn-reads
-use Rattle.machine.proofs.steps.start.Reads as start-reads
+use Rattle.machine.proofs.states.start.Reads as start-reads
 
 abbrev Inv-loop : tie.InvT-loop
 Inv-loop t z regs₀ mem₀ dirs obs₀ s₀ at₀ seen₀ steps₀ regs mem obs s at seen steps =

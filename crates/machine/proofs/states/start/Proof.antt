@@ -1,11 +1,11 @@
 use mathlib.Core.Path.{_≡_, refl}
 use borrow.Author.Needs.{needs}
-use Rattle.machine.proofs.steps.start.Statement.{statement}
-use Rattle.machine.proofs.steps.start.Tie as tie
-use Rattle.machine.proofs.steps.start.Reads as reads
-use Rattle.machine.proofs.steps.start.Lts as lts
+use Rattle.machine.proofs.states.start.Statement.{statement}
+use Rattle.machine.proofs.states.start.Tie as tie
+use Rattle.machine.proofs.states.start.Reads as reads
+use Rattle.machine.proofs.states.start.Lts as lts
 use Rattle.format.proofs.start_of.Reads as start-of-reads
-use Rattle.machine.proofs.plans.one_less.Reads as one-less-reads
+use Rattle.machine.proofs.states.one_less.Reads as one-less-reads
 
 -- src/steps.rt:119:9
 one-less-requires : tie.Need-one-less-requires
