@@ -2,6 +2,7 @@
 // 25, 26, before anything changes: a plan is made first, and room for its observation looked for, before it is carried out.
 use crate::Acted;
 use crate::Outcome;
+use crate::Plan;
 use crate::State;
 use crate::Stop;
 use crate::Told;
@@ -20,7 +21,9 @@ ghost use Prim.Native.Nat.{_+_, _-_, _≤_, _<_};
 ghost use lib.ListN.{length};
 ghost use Rattle.reading.specs.Reading.{readAt};
 ghost use Rattle.reading.specs.declared.Answer.the-variants.{Reads};
-ghost use Rattle.format.specs.Layout.{wordsFrom};
+ghost use mathlib.Core.Bool.{Bool};
+ghost use Rattle.format.specs.Layout.{wordsFrom, tableWith};
+ghost use Rattle.machine.specs.States.{words, applied, Lands};
 ghost use Rattle.machine.specs.Runs.{ran, total, started};
 ghost use Rattle.machine.specs.Turns.{lent, Acts, Turns, Ready};
 
@@ -39,6 +42,15 @@ fn ended(stop: u8, state: State, at: usize, seen: usize) -> Turn
         at,
         seen,
     }
+}
+
+// Does to registers and memory what a plan says.
+fn carry_out(t: &[u8], z: Sizes, p: Plan, regs: &mut [u32], mem: &mut [u32])
+    requires { ⌜ Lands (tableWith z (now t)) (p .effect) × (length (now mem) ≡ total (wordsFrom z (now t) (z .arrays) 0)) ⌝ }
+    ensures { λ _. ⌜ ((m : Bool) → words (now (regs .exit)) (now (mem .exit)) m ≡ applied (tableWith z (now (t .entry))) (p .effect) (words (now (regs .entry)) (now (mem .entry)) m)) ⌝ }
+{
+    let e = p.effect;
+    apply(t, z, e, regs, mem);
 }
 
 // The step under one directive.
@@ -65,13 +77,14 @@ fn act(
         return halted(26, s, seen);
     }
     put_observation(obs, seen, o);
-    let e = p.effect;
-    apply(t, z, e, regs, mem);
+    carry_out(t, z, p, regs, mem);
     let next = p.next;
+    let state = moved(s, next);
+    let end = seen + k;
     Acted {
         stop: 0,
-        state: moved(s, next),
-        seen: seen + k,
+        state,
+        seen: end,
     }
 }
 

@@ -10,7 +10,7 @@ use Rattle.machine.proofs.steps.act.Reads as reads
 use Rattle.machine.proofs.steps.act.Lts as lts
 use Rattle.machine.proofs.bytes.put_observation.Reads as put-observation-reads
 use Rattle.machine.proofs.bytes.size_of.Reads as size-of-reads
-use Rattle.machine.proofs.memory.apply.Reads as apply-reads
+use Rattle.machine.proofs.steps.carry_out.Reads as carry-out-reads
 use Rattle.machine.proofs.plans.plan.Reads as plan-reads
 use Rattle.machine.proofs.steps.halted.Reads as halted-reads
 -- src/steps.rt:55:9
@@ -68,8 +68,8 @@ put-observation-requires : tie.Need-put-observation-requires
 put-observation-requires c κs = search needs
 
 -- src/steps.rt:66:5
-apply-requires : tie.Need-apply-requires
-apply-requires c κs = search needs
+carry-out-requires : tie.Need-carry-out-requires
+carry-out-requires c κs = search needs
 
 -- src/steps.rt:73:16
 moved-requires : tie.Need-moved-requires
@@ -79,8 +79,8 @@ moved-requires c κs =
     room-for (a .z) (a .t .now) (a .s) (a .dir) (lent (a .regs .now) (a .mem .now) (a .obs .now)) (p .result) (p .ensures .0) (c .before .before .before .before .before .before .before .before .before .before .before .before .before .before .before .before .before .before .before .before .before .before .before .pre .0) (c .before .before .before .before .before .before .before .before .before .before .before .before .before .before .if1 .left)
 
 -- src/steps.rt:72:15
-add-t19 : tie.Need-add-t19
-add-t19 c =
+add-end : tie.Need-add-end
+add-end c =
     omega (arith, c .before .before .before .before .before .before .before .before .before .before .before .before .before .if2 .left, c .before .before .before .before .before .before .before .before .before .before .before .before .before .before .size-of .ensures .0, c .before .before .before .before .before .before .before .before .before .before .before .before .before .before .size-of .ensures .1, c .before .before .before .before .before .before .before .before .before .before .before .before .before .before .before .before .before .before .before .before .before .before .before .before .pre .1, c .before .before .before .before .before .before .before .before .before .before .before .before .before .before .before .before .before .before .before .before .before .before .before .before .good .1 .1 .1 .1 .1 .1 .1 .0 .0)
 
 -- src/steps.rt:40:1
@@ -100,7 +100,7 @@ returns-3 : tie.Need-returns-3
 returns-3 c =
     let a = c .before .before .before .before .before .before .before .before .before .before .before .before .before .before .before .before .before .before .before .before .before .before .before .before .args in
     let k = c .before .before .before .before .before .before .before .before .before .before .before .before .before .before .size-of .ensures .0 in
-    act-goes (a .z) (a .t .now) (a .s) (a .dir) (a .seen) (lent (a .regs .now) (a .mem .now) (a .obs .now)) (c .before .before .before .before .before .before .before .before .before .before .before .before .before .before .before .before .before .plan .result) _ (c .before .before .before .before .before .before .before .before .before .before .before .before .before .before .before .before .before .plan .ensures .0) _ _ _ (c .before .before .before .before .before .before .before .before .before .before .before .before .before .before .before .if1 .left) (omega (arith, k, c .before .before .before .before .before .before .before .before .before .before .before .before .before .if2 .left)) (c .before .before .before .before .before .before .apply .ensures) (c .before .before .before .before .before .before .before .before .before .before .before .put-observation .ensures) refl (c .moved .ensures) (ap (λ (n : ℕ). a .seen + n) k)
+    act-goes (a .z) (a .t .now) (a .s) (a .dir) (a .seen) (lent (a .regs .now) (a .mem .now) (a .obs .now)) (c .before .before .before .before .before .before .before .before .before .before .before .before .before .before .before .before .before .plan .result) _ (c .before .before .before .before .before .before .before .before .before .before .before .before .before .before .before .before .before .plan .ensures .0) _ _ _ (c .before .before .before .before .before .before .before .before .before .before .before .before .before .before .before .if1 .left) (omega (arith, k, c .before .before .before .before .before .before .before .before .before .before .before .before .before .if2 .left)) (c .before .before .before .before .before .before .carry-out .ensures) (c .before .before .before .before .before .before .before .before .before .before .before .put-observation .ensures) refl (c .moved .ensures) (ap (λ (n : ℕ). a .seen + n) k)
 
 pub act-spec : {M : Type 1} → statement M
 act-spec =
@@ -118,9 +118,9 @@ act-spec =
     same-length-4
     returns-2
     put-observation-requires
-    apply-requires
+    carry-out-requires
     moved-requires
-    add-t19
+    add-end
     same-length-5
     same-length-6
     same-length-7
