@@ -1,27 +1,15 @@
 // Document 01, "Table layout": the bytes of a table.
 //
-// records.rt: one record of code. head.rt: the records before it, read. layout.rt: what they say, read off once more.
-// Here: the numbers they are made of.
+// Here: the numbers that records are made of, wherever they stand; bytes past the table's end count as 0. The crates `head`
+// (the records before the code, read), `layout` (what they say, read off once more) and `records` (one record of code) are over
+// these. The definitions of all four stand in specs/.
 use model::Packed;
 use model::Record;
+use model::Sizes;
 ghost use mathlib.Core.Path.{_≡_};
 ghost use Prim.Native.Nat.{_+_, _<_};
+ghost use Rattle.model.specs.Packing.{levelsIn, packedIn};
 ghost use Rattle.format.specs.Format.{byte, word16, word32, packedAt};
-
-mod head;
-mod layout;
-mod records;
-
-pub use head::arrays;
-pub use head::signatures;
-pub use head::sizes;
-pub use layout::in_of;
-pub use layout::out_of;
-pub use layout::sizes_of;
-pub use layout::start_of;
-pub use layout::words_at;
-pub use records::code_length;
-pub use records::decode;
 
 // A record with the place after it, or a fault (2, 3 or 4) with its place.
 pub enum Decoded {
@@ -84,8 +72,17 @@ fn four(t: &[u8], p: usize) -> u32
         + wide(byte_at(t, p + 3)) * 16777216
 }
 
-// Seven bytes: status, registers, arrays.
-fn packed_at(t: &[u8], p: usize) -> Packed
+// Four bytes, low byte first.
+pub fn word_at(t: &[u8], p: usize) -> u32
+    ensures { λ r. ⌜ r ≡ word32 (now (t .entry)) p ⌝ }
+{
+    if p < t.len() {
+        return four(t, p);
+    }
+    0
+}
+
+fn seven(t: &[u8], p: usize) -> Packed
     requires { ⌜ p + 7 < 18446744073709551616 ⌝ }
     ensures { λ r. ⌜ r ≡ packedAt (now (t .entry)) p ⌝ }
 {
@@ -97,4 +94,44 @@ fn packed_at(t: &[u8], p: usize) -> Packed
         registers,
         arrays,
     }
+}
+
+// Seven bytes: status, registers, arrays.
+pub fn packed_at(t: &[u8], p: usize) -> Packed
+    ensures { λ r. ⌜ r ≡ packedAt (now (t .entry)) p ⌝ }
+{
+    if p < t.len() {
+        return seven(t, p);
+    }
+    Packed {
+        status: 0,
+        registers: 0,
+        arrays: 0,
+    }
+}
+
+// Of n packed levels none is 3, and nothing is above them.
+fn levels_in(n: u8, w: u32) -> bool
+    ensures { λ r. ⌜ r ≡ levelsIn n w ⌝ }
+{
+    if n == 0 {
+        return w == 0;
+    }
+    if w % 4 == 3 {
+        return false;
+    }
+    levels_in(n - 1, w / 4)
+}
+
+// A packed environment that a table of these sizes may hold.
+pub fn packed_in(z: Sizes, e: Packed) -> bool
+    ensures { λ r. ⌜ r ≡ packedIn (z .registers) (z .arrays) e ⌝ }
+{
+    if 2 <= e.status {
+        return false;
+    }
+    if levels_in(z.registers, e.registers) {
+        return levels_in(z.arrays, e.arrays);
+    }
+    false
 }

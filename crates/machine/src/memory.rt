@@ -39,7 +39,7 @@ fn total_from(t: &[u8], z: Sizes, n: u8, a: u8) -> usize
     if n == 0 {
         return 0;
     }
-    format::words_at(t, z, a) + total_from(t, z, n - 1, a + 1)
+    layout::words_at(t, z, a) + total_from(t, z, n - 1, a + 1)
 }
 
 // Registers and memory are of the table's sizes.
@@ -64,7 +64,7 @@ fn offset_from(t: &[u8], z: Sizes, n: u8, b: u8, a: u8) -> usize
     if a == 0 {
         return 0;
     }
-    format::words_at(t, z, b) + offset_from(t, z, n - 1, b + 1, a - 1)
+    layout::words_at(t, z, b) + offset_from(t, z, n - 1, b + 1, a - 1)
 }
 
 fn offset_of(t: &[u8], z: Sizes, a: u8) -> usize
@@ -78,7 +78,7 @@ pub(crate) fn words_of(t: &[u8], z: Sizes, a: u8) -> usize
     ensures { λ r. ⌜ (r ≡ wordsOf (tableWith z (now (t .entry))) a) × (r < 65536) ⌝ }
 {
     if a < z.arrays {
-        return format::words_at(t, z, a);
+        return layout::words_at(t, z, a);
     }
     0
 }

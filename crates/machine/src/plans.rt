@@ -428,7 +428,7 @@ fn home(t: &[u8], z: Sizes, n: u8, p: usize) -> u8
     if n == 0 {
         return 0;
     }
-    if format::start_of(t, z, n - 1) <= p {
+    if layout::start_of(t, z, n - 1) <= p {
         return n - 1;
     }
     home(t, z, n - 1, p)
@@ -460,9 +460,9 @@ fn site_of(t: &[u8], z: Sizes, function: u8, q: usize) -> Site
     requires { ⌜ length (now t) ≤ 32768 ⌝ }
     ensures { λ r. ⌜ markOf r ≡ scan (recordOf z (now (t .entry))) (length (now (t .entry))) (length (now (t .entry))) (startOf z (now (t .entry)) 0) function q ⌝ }
 {
-    let mut c = format::start_of(t, z, 0);
+    let mut c = layout::start_of(t, z, 0);
     while c < t.len() {
-        let d = format::decode(t, c, z);
+        let d = records::decode(t, c, z);
         match d {
             Decoded::Bad(n, p) => {
                 if q == c + 3 {
@@ -582,12 +582,12 @@ pub(crate) fn plan(t: &[u8], z: Sizes, s: State, dir: Directive, regs: &[u32], m
     ensures lands { λ r. ⌜ Lands (tableWith z (now (t .entry))) (r .effect) ⌝ }
 {
     let place = s.place;
-    let d = format::decode(t, place, z);
+    let d = records::decode(t, place, z);
     match d {
         Decoded::Bad(n, p) => returning(t, z, s, dir),
         Decoded::Got(r, next) => match r {
             Record::Do(x) => simple(t, z, s, next, dir, regs, mem, x),
-            Record::Call { function, mark } => call(s, next, dir, format::start_of(t, z, function)),
+            Record::Call { function, mark } => call(s, next, dir, layout::start_of(t, z, function)),
             Record::If { register, to } => forked(
                 s,
                 dir,

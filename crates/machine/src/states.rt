@@ -25,7 +25,7 @@ pub(crate) fn start(t: &[u8], z: Sizes) -> State
 {
     let entry = one_less(z.functions);
     State {
-        place: format::start_of(t, z, entry),
+        place: layout::start_of(t, z, entry),
         stack: [0u16; 31],
         depth: 0,
         mis: false,

@@ -34,7 +34,7 @@ fn kind_length(kind: u8) -> usize
         1 => 4,
         2 => 3,
         3 => 17,
-        _ => format::code_length(kind),
+        _ => records::code_length(kind),
     }
 }
 

@@ -30,7 +30,7 @@ fn record(t: &[u8], z: Sizes, c: u8, at: usize) -> Decoded
     }
     let k = t[at];
     if allowed_here(c, k) {
-        return format::decode(t, at, z);
+        return records::decode(t, at, z);
     }
     Decoded::Bad(3, at)
 }
@@ -146,7 +146,7 @@ fn function(t: &[u8], z: Sizes, i: u8, at: usize) -> To
     match d {
         Decoded::Bad(n, p) => To::Fault(n, p),
         Decoded::Got(r, next) => {
-            let start = format::start_of(t, z, i);
+            let start = layout::start_of(t, z, i);
             if at != start {
                 return To::Fault(5, at);
             }

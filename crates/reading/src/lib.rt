@@ -20,7 +20,7 @@ pub fn read(t: &[u8]) -> Answer
     if 32768 < t.len() {
         return Answer::Refused(1, 0);
     }
-    let z = format::sizes_of(t);
+    let z = layout::sizes_of(t);
     let all = parts(t, z);
     match all {
         To::Fault(n, p) => Answer::Refused(n, p),
@@ -32,15 +32,15 @@ pub fn read(t: &[u8]) -> Answer
 fn parts(t: &[u8], z: Sizes) -> To
     ensures { λ r. ⌜ r ≡ partsAt z (now (t .entry)) ⌝ }
 {
-    let first = format::sizes(t, 0);
+    let first = head::sizes(t, 0);
     match first {
         To::Fault(n, p) => To::Fault(n, p),
         To::At(p) => {
-            let second = format::arrays(t, z.arrays, p);
+            let second = head::arrays(t, z.arrays, p);
             match second {
                 To::Fault(n, q) => To::Fault(n, q),
                 To::At(q) => {
-                    let third = format::signatures(t, z, z.functions, q);
+                    let third = head::signatures(t, z, z.functions, q);
                     match third {
                         To::Fault(n, x) => To::Fault(n, x),
                         To::At(x) => code::functions(t, z, z.functions, x),

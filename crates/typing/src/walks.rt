@@ -50,9 +50,9 @@ fn call(t: &[u8], z: Sizes, function: u8, mark: bool, at: usize, next: usize, e:
     requires { ⌜ Small z ⌝ }
     ensures { λ r. ⌜ viewWalk r ≡ callWalk z (now (t .entry)) function mark at next (viewEnv e) ⌝ }
 {
-    let into = unpack(format::in_of(t, z, function));
+    let into = unpack(layout::in_of(t, z, function));
     if env_within(z, e, into) {
-        let out = unpack(format::out_of(t, z, function));
+        let out = unpack(layout::out_of(t, z, function));
         let env = returned_env(out, mark, e);
         return Walk {
             to: Walked::Next(next),
@@ -169,7 +169,7 @@ fn one(t: &[u8], z: Sizes, at: usize, depth: u8, e: Env) -> Walk
     requires { ⌜ Ready z (now t) at depth ⌝ }
     ensures { λ r. ⌜ viewWalk r ≡ recordWalk z (now (t .entry)) depth at (viewEnv e) ⌝ }
 {
-    let d = format::decode(t, at, z);
+    let d = records::decode(t, at, z);
     match d {
         Decoded::Bad(n, p) => shut(at, e),
         Decoded::Got(r, next) => match r {
@@ -225,8 +225,8 @@ fn function(t: &[u8], z: Sizes, g: u8) -> Walked
     requires { ⌜ Ready z (now t) 0 16 ⌝ }
     ensures { λ r. ⌜ r ≡ bare (functionWalk z (now (t .entry)) g) ⌝ }
 {
-    let start = format::start_of(t, z, g);
-    let into = unpack(format::in_of(t, z, g));
+    let start = layout::start_of(t, z, g);
+    let into = unpack(layout::in_of(t, z, g));
     let w = block(t, z, start, 16, into);
     let to = w.to;
     let e = w.env;
@@ -234,7 +234,7 @@ fn function(t: &[u8], z: Sizes, g: u8) -> Walked
         Walked::Next(p) => Walked::Fault(3, p),
         Walked::Fault(n, p) => Walked::Fault(n, p),
         Walked::Shut(p) => {
-            let out = unpack(format::out_of(t, z, g));
+            let out = unpack(layout::out_of(t, z, g));
             if env_within(z, e, out) {
                 return Walked::Shut(p);
             }

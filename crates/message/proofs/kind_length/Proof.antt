@@ -4,7 +4,7 @@ use Rattle.message.proofs.kind_length.Statement.{statement}
 use Rattle.message.proofs.kind_length.Tie as tie
 use Rattle.message.proofs.kind_length.Reads as reads
 use Rattle.message.proofs.kind_length.Lts as lts
-use Rattle.format.proofs.code_length.Reads as code-length-reads
+use Rattle.records.proofs.code_length.Reads as code-length-reads
 
 -- src/lib.rt:37:14
 code-length-requires : tie.Need-code-length-requires

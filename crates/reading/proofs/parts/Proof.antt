@@ -5,9 +5,9 @@ use Rattle.reading.proofs.parts.Statement.{statement}
 use Rattle.reading.proofs.parts.Tie as tie
 use Rattle.reading.proofs.parts.Reads as reads
 use Rattle.reading.proofs.parts.Lts as lts
-use Rattle.format.proofs.arrays.Reads as arrays-reads
-use Rattle.format.proofs.signatures.Reads as signatures-reads
-use Rattle.format.proofs.sizes.Reads as sizes-reads
+use Rattle.head.proofs.arrays.Reads as arrays-reads
+use Rattle.head.proofs.signatures.Reads as signatures-reads
+use Rattle.head.proofs.sizes.Reads as sizes-reads
 use Rattle.reading.proofs.code.functions.Reads as functions-reads
 
 -- src/lib.rt:35:9

@@ -6,7 +6,7 @@ use Rattle.reading.proofs.read.Statement.{statement}
 use Rattle.reading.proofs.read.Tie as tie
 use Rattle.reading.proofs.read.Reads as reads
 use Rattle.reading.proofs.read.Lts as lts
-use Rattle.format.proofs.sizes_of.Reads as sizes-of-reads
+use Rattle.layout.proofs.sizes_of.Reads as sizes-of-reads
 use Rattle.reading.proofs.parts.Reads as parts-reads
 
 -- src/lib.rt:21:9

@@ -9,7 +9,7 @@ use borrow.Fn.PlainCycle.{Measures, is, falls, and}
 use Rattle.machine.proofs.memory.offset_from.Reads as offset-from
 use Rattle.machine.proofs.memory.offset_from.Kinds as offset-from-kinds
 use Rattle.machine.proofs.memory.+offset_from.Lts-offset_from as offset-from-lts
-use Rattle.format.proofs.words_at.Reads as words-at-reads
+use Rattle.layout.proofs.words_at.Reads as words-at-reads
 use Rattle.machine.proofs.memory.+offset_from.{statement}
 use Rattle.machine.proofs.memory.+offset_from.Tie.{close}
 

@@ -8,7 +8,7 @@ use borrow.Fn.PlainCycle.{Measures, is, falls, and}
 use Rattle.machine.proofs.memory.total_from.Reads as total-from
 use Rattle.machine.proofs.memory.total_from.Kinds as total-from-kinds
 use Rattle.machine.proofs.memory.+total_from.Lts-total_from as total-from-lts
-use Rattle.format.proofs.words_at.Reads as words-at-reads
+use Rattle.layout.proofs.words_at.Reads as words-at-reads
 use Rattle.machine.proofs.memory.+total_from.{statement}
 use Rattle.machine.proofs.memory.+total_from.Tie.{close}
 

@@ -6,7 +6,7 @@ use Rattle.machine.proofs.memory.words_of.Statement.{statement}
 use Rattle.machine.proofs.memory.words_of.Tie as tie
 use Rattle.machine.proofs.memory.words_of.Reads as reads
 use Rattle.machine.proofs.memory.words_of.Lts as lts
-use Rattle.format.proofs.words_at.Reads as words-at-reads
+use Rattle.layout.proofs.words_at.Reads as words-at-reads
 
 -- src/memory.rt:81:9
 words-at-requires : tie.Need-words-at-requires

@@ -8,7 +8,7 @@ use borrow.Fn.PlainCycle.{Measures, is, falls, and}
 use Rattle.machine.proofs.plans.home.Reads as home
 use Rattle.machine.proofs.plans.home.Kinds as home-kinds
 use Rattle.machine.proofs.plans.+home.Lts-home as home-lts
-use Rattle.format.proofs.start_of.Reads as start-of-reads
+use Rattle.layout.proofs.start_of.Reads as start-of-reads
 use Rattle.machine.proofs.plans.+home.{statement}
 use Rattle.machine.proofs.plans.+home.Tie.{close}
 

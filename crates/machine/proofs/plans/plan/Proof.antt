@@ -11,8 +11,8 @@ use Rattle.machine.proofs.plans.plan.Statement.{statement}
 use Rattle.machine.proofs.plans.plan.Tie as tie
 use Rattle.machine.proofs.plans.plan.Reads as reads
 use Rattle.machine.proofs.plans.plan.Lts as lts
-use Rattle.format.proofs.start_of.Reads as start-of-reads
-use Rattle.format.proofs.decode.Reads as decode-reads
+use Rattle.layout.proofs.start_of.Reads as start-of-reads
+use Rattle.records.proofs.decode.Reads as decode-reads
 use Rattle.machine.proofs.memory.get.Reads as get-reads
 use Rattle.machine.proofs.plans.call.Reads as call-reads
 use Rattle.machine.proofs.plans.forked.Reads as forked-reads

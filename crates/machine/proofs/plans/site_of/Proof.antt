@@ -13,8 +13,8 @@ use Rattle.machine.proofs.plans.site_of.Statement.{statement}
 use Rattle.machine.proofs.plans.site_of.Tie as tie
 use Rattle.machine.proofs.plans.site_of.Reads as reads
 use Rattle.machine.proofs.plans.site_of.Lts as lts
-use Rattle.format.proofs.start_of.Reads as start-of-reads
-use Rattle.format.proofs.decode.Reads as decode-reads
+use Rattle.layout.proofs.start_of.Reads as start-of-reads
+use Rattle.records.proofs.decode.Reads as decode-reads
 use Rattle.machine.proofs.plans.mark_of.Reads as mark-of-reads
 
 abbrev Inv-loop : tie.InvT-loop

@@ -4,7 +4,7 @@ use Rattle.machine.proofs.states.start.Statement.{statement}
 use Rattle.machine.proofs.states.start.Tie as tie
 use Rattle.machine.proofs.states.start.Reads as reads
 use Rattle.machine.proofs.states.start.Lts as lts
-use Rattle.format.proofs.start_of.Reads as start-of-reads
+use Rattle.layout.proofs.start_of.Reads as start-of-reads
 use Rattle.machine.proofs.states.one_less.Reads as one-less-reads
 
 -- src/steps.rt:119:9

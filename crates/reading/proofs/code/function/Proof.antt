@@ -7,7 +7,7 @@ use Rattle.reading.proofs.code.function.Statement.{statement}
 use Rattle.reading.proofs.code.function.Tie as tie
 use Rattle.reading.proofs.code.function.Reads as reads
 use Rattle.reading.proofs.code.function.Lts as lts
-use Rattle.format.proofs.start_of.Reads as start-of-reads
+use Rattle.layout.proofs.start_of.Reads as start-of-reads
 use Rattle.reading.proofs.code.block.Reads as block-reads
 use Rattle.reading.proofs.code.record.Reads as record-reads
 

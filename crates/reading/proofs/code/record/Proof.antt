@@ -6,7 +6,7 @@ use Rattle.reading.proofs.code.record.Statement.{statement}
 use Rattle.reading.proofs.code.record.Tie as tie
 use Rattle.reading.proofs.code.record.Reads as reads
 use Rattle.reading.proofs.code.record.Lts as lts
-use Rattle.format.proofs.decode.Reads as decode-reads
+use Rattle.records.proofs.decode.Reads as decode-reads
 use Rattle.reading.proofs.code.allowed_here.Reads as allowed-here-reads
 
 -- src/code.rt:29:9

@@ -28,7 +28,7 @@ use Rattle.typing.proofs.walks.+block+branch+one+repeat.Lts-one as one-
 use Rattle.typing.proofs.walks.repeat.Reads as repeat
 use Rattle.typing.proofs.walks.repeat.Kinds as repeat-kinds
 use Rattle.typing.proofs.walks.+block+branch+one+repeat.Lts-repeat as repeat-lts
-use Rattle.format.proofs.decode.Reads as decode-reads
+use Rattle.records.proofs.decode.Reads as decode-reads
 use Rattle.typing.proofs.environments.env_within.Reads as env-within-reads
 use Rattle.typing.proofs.environments.guarded_env.Reads as guarded-env-reads
 use Rattle.typing.proofs.environments.unpack.Reads as unpack-reads

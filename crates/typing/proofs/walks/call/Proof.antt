@@ -10,8 +10,8 @@ use Rattle.typing.proofs.walks.call.Statement.{statement}
 use Rattle.typing.proofs.walks.call.Tie as tie
 use Rattle.typing.proofs.walks.call.Reads as reads
 use Rattle.typing.proofs.walks.call.Lts as lts
-use Rattle.format.proofs.in_of.Reads as in-of-reads
-use Rattle.format.proofs.out_of.Reads as out-of-reads
+use Rattle.layout.proofs.in_of.Reads as in-of-reads
+use Rattle.layout.proofs.out_of.Reads as out-of-reads
 use Rattle.typing.proofs.environments.env_within.Reads as env-within-reads
 use Rattle.typing.proofs.environments.returned_env.Reads as returned-env-reads
 use Rattle.typing.proofs.environments.unpack.Reads as unpack-reads

@@ -10,9 +10,9 @@ use Rattle.typing.proofs.walks.function.Statement.{statement}
 use Rattle.typing.proofs.walks.function.Tie as tie
 use Rattle.typing.proofs.walks.function.Reads as reads
 use Rattle.typing.proofs.walks.function.Lts as lts
-use Rattle.format.proofs.in_of.Reads as in-of-reads
-use Rattle.format.proofs.out_of.Reads as out-of-reads
-use Rattle.format.proofs.start_of.Reads as start-of-reads
+use Rattle.layout.proofs.in_of.Reads as in-of-reads
+use Rattle.layout.proofs.out_of.Reads as out-of-reads
+use Rattle.layout.proofs.start_of.Reads as start-of-reads
 use Rattle.typing.proofs.environments.env_within.Reads as env-within-reads
 use Rattle.typing.proofs.environments.unpack.Reads as unpack-reads
 use Rattle.typing.proofs.walks.block.Reads as block-reads

@@ -1,0 +1,132 @@
+use mathlib.Core.Path.{_≡_, refl, sym, _∙_}
+use Rattle.format.specs.Head.{signaturesAt}
+use Rattle.head.proofs.Laws.{signatures-is}
+use borrow.Author.Needs.{needs}
+use Prim.Native.Nat.{ℕ, _<_}
+use borrow.Fn.Kinds.{In}
+use borrow.Fn.PlainCycle.{Measures, is, falls, and}
+use Rattle.head.proofs.signatures.Reads as signatures
+use Rattle.head.proofs.signatures.Kinds as signatures-kinds
+use Rattle.head.proofs.+signatures.Lts-signatures as signatures-lts
+use Rattle.head.proofs.signature.Reads as signature-reads
+use Rattle.head.proofs.+signatures.{statement}
+use Rattle.head.proofs.+signatures.Tie.{close}
+
+abbrev μ-signatures : Measures 1 signatures-kinds.ps ℕ
+μ-signatures κs a = a .1 .1 .0
+
+abbrev signatures-at : ℕ → In 1 signatures-kinds.ps
+signatures-at t =
+    and 1 signatures-kinds.ps (is 1 signatures-kinds.ps μ-signatures t) signatures.Pre
+
+abbrev signatures-below : ℕ → In 1 signatures-kinds.ps
+signatures-below t =
+    and 1 signatures-kinds.ps (falls 1 signatures-kinds.ps _<_ μ-signatures t) signatures.Pre
+
+-- src/head.rt:116:9
+signatures-returns : (t : ℕ) → signatures-lts.Need-returns (
+  signature-reads.Asked,
+  signature-reads.Learnt,
+  signatures-below t,
+  signatures.Post,
+) (signatures-at t) signatures.Post
+unfolding signaturesAt
+signatures-returns t c =
+    simp (c .if1 .taken)
+
+-- src/head.rt:118:31
+signatures-sub-signature : (t : ℕ) → signatures-lts.Need-sub-signature (
+  signature-reads.Asked,
+  signature-reads.Learnt,
+  signatures-below t,
+  signatures.Post,
+) (signatures-at t) signatures.Post
+signatures-sub-signature t c = search needs
+
+-- src/head.rt:118:9
+signatures-signature-requires : (t : ℕ) → signatures-lts.Need-signature-requires (
+  signature-reads.Asked,
+  signature-reads.Learnt,
+  signatures-below t,
+  signatures.Post,
+) (signatures-at t) signatures.Post
+signatures-signature-requires t c κs = search needs
+
+-- src/head.rt:120:16
+signatures-enum-known-one : (t : ℕ) → signatures-lts.Need-enum-known-one (
+  signature-reads.Asked,
+  signature-reads.Learnt,
+  signatures-below t,
+  signatures.Post,
+) (signatures-at t) signatures.Post
+signatures-enum-known-one t c = search needs
+
+-- src/head.rt:120:39
+signatures-sub-signatures : (t : ℕ) → signatures-lts.Need-sub-signatures (
+  signature-reads.Asked,
+  signature-reads.Learnt,
+  signatures-below t,
+  signatures.Post,
+) (signatures-at t) signatures.Post
+signatures-sub-signatures t c = search needs
+
+-- src/head.rt:120:22
+signatures-signatures-requires : (t : ℕ) → signatures-lts.Need-signatures-requires (
+  signature-reads.Asked,
+  signature-reads.Learnt,
+  signatures-below t,
+  signatures.Post,
+) (signatures-at t) signatures.Post
+signatures-signatures-requires t c κs = search needs
+
+-- src/head.rt:121:19
+signatures-enum-known-one-2 : (t : ℕ) → signatures-lts.Need-enum-known-one-2 (
+  signature-reads.Asked,
+  signature-reads.Learnt,
+  signatures-below t,
+  signatures.Post,
+) (signatures-at t) signatures.Post
+signatures-enum-known-one-2 t c = search needs
+
+-- src/head.rt:112:1
+signatures-returns-2 : (t : ℕ) → signatures-lts.Need-returns-2 (
+  signature-reads.Asked,
+  signature-reads.Learnt,
+  signatures-below t,
+  signatures.Post,
+) (signatures-at t) signatures.Post
+signatures-returns-2 t c =
+    let h = c .before .before .before .before .before .if1 .left in
+    let e = sym (c .before .before .before .before .signature .ensures) ∙ c .before .before .one .given .1 in
+    simp (signatures-is, e) (c .signatures .ensures)
+
+-- src/head.rt:112:1
+signatures-returns-3 : (t : ℕ) → signatures-lts.Need-returns-3 (
+  signature-reads.Asked,
+  signature-reads.Learnt,
+  signatures-below t,
+  signatures.Post,
+) (signatures-at t) signatures.Post
+signatures-returns-3 t c =
+    let h = c .before .before .before .before .if1 .left in
+    let e = sym (c .before .before .before .signature .ensures) ∙ c .before .one2 .given .1 in
+    simp (signatures-is, e)
+
+pub +signatures-spec : {M : Type 1} → statement M
++signatures-spec = close μ-signatures λ t. signatures-lts.spec (
+  signature-reads.Asked,
+  signature-reads.Learnt,
+  signatures-below t,
+  signatures.Post,
+)
+    (signatures-at t)
+    signatures.Post
+    (signatures-returns t)
+    (signatures-sub-signature t)
+    (signatures-signature-requires t)
+    (signatures-enum-known-one t)
+    (signatures-sub-signatures t)
+    (signatures-signatures-requires t)
+    (signatures-enum-known-one-2 t)
+    (signatures-returns-2 t)
+    (signatures-returns-3 t)

@@ -1,0 +1,164 @@
+use Rattle.format.specs.Head.{sizesAt}
+use borrow.Author.Tests.{lt-ltb, le-ltb, le-leb, lt-leb, eq-eqb, ne-eqb}
+use borrow.Author.Needs.{needs}
+use Rattle.head.proofs.sizes.Statement.{statement}
+use Rattle.head.proofs.sizes.Tie as tie
+use Rattle.head.proofs.sizes.Reads as reads
+use Rattle.head.proofs.sizes.Lts as lts
+
+-- src/head.rt:16:9
+returns : tie.Need-returns
+unfolding sizesAt
+returns c =
+    let h1 = c .if1 .taken in
+    simp (lt-ltb, le-ltb, le-leb, lt-leb, eq-eqb, ne-eqb)
+
+-- src/head.rt:18:8
+shared-slice-read-if2 : tie.Need-shared-slice-read-if2
+shared-slice-read-if2 c = search needs
+
+-- src/head.rt:19:9
+returns-2 : tie.Need-returns-2
+unfolding sizesAt
+returns-2 c =
+    let h1 = c .if2 .taken in
+    let h2 = c .before .before .if1 .left in
+    simp (lt-ltb, le-ltb, le-leb, lt-leb, eq-eqb, ne-eqb)
+
+-- src/head.rt:21:8
+sub-if3 : tie.Need-sub-if3
+sub-if3 c = search needs
+
+-- src/head.rt:22:9
+returns-3 : tie.Need-returns-3
+unfolding sizesAt
+returns-3 c =
+    let h1 = c .if3 .taken in
+    let h2 = c .before .if2 .left in
+    let h3 = c .before .before .before .if1 .left in
+    simp (lt-ltb, le-ltb, le-leb, lt-leb, eq-eqb, ne-eqb)
+
+-- src/head.rt:24:23
+add-registers : tie.Need-add-registers
+add-registers c = search needs
+
+-- src/head.rt:24:21
+shared-slice-read-registers : tie.Need-shared-slice-read-registers
+shared-slice-read-registers c = search needs
+
+-- src/head.rt:25:20
+add-arrays : tie.Need-add-arrays
+add-arrays c = search needs
+
+-- src/head.rt:25:18
+shared-slice-read-arrays : tie.Need-shared-slice-read-arrays
+shared-slice-read-arrays c = search needs
+
+-- src/head.rt:26:23
+add-functions : tie.Need-add-functions
+add-functions c = search needs
+
+-- src/head.rt:26:21
+shared-slice-read-functions : tie.Need-shared-slice-read-functions
+shared-slice-read-functions c = search needs
+
+-- src/head.rt:28:9
+returns-4 : tie.Need-returns-4
+unfolding sizesAt
+returns-4 c =
+    let h1 = c .if4 .taken in
+    let h2 = c .before .before .before .before .if3 .left in
+    let h3 = c .before .before .before .before .before .if2 .left in
+    let h4 = c .before .before .before .before .before .before .before .if1 .left in
+    simp (lt-ltb, le-ltb, le-leb, lt-leb, eq-eqb, ne-eqb)
+
+-- src/head.rt:31:9
+returns-5 : tie.Need-returns-5
+unfolding sizesAt
+returns-5 c =
+    let h1 = c .if5 .taken in
+    let h2 = c .before .if4 .left in
+    let h3 = c .before .before .before .before .before .if3 .left in
+    let h4 = c .before .before .before .before .before .before .if2 .left in
+    let h5 = c .before .before .before .before .before .before .before .before .if1 .left in
+    simp (lt-ltb, le-ltb, le-leb, lt-leb, eq-eqb, ne-eqb)
+
+-- src/head.rt:34:9
+returns-6 : tie.Need-returns-6
+unfolding sizesAt
+returns-6 c =
+    let h1 = c .if6 .taken in
+    let h2 = c .before .if5 .left in
+    let h3 = c .before .before .if4 .left in
+    let h4 = c .before .before .before .before .before .before .if3 .left in
+    let h5 = c .before .before .before .before .before .before .before .if2 .left in
+    let h6 = c .before .before .before .before .before .before .before .before .before .if1 .left in
+    simp (lt-ltb, le-ltb, le-leb, lt-leb, eq-eqb, ne-eqb)
+
+-- src/head.rt:37:9
+returns-7 : tie.Need-returns-7
+unfolding sizesAt
+returns-7 c =
+    let h1 = c .if7 .taken in
+    let h2 = c .before .if6 .left in
+    let h3 = c .before .before .if5 .left in
+    let h4 = c .before .before .before .if4 .left in
+    let h5 = c .before .before .before .before .before .before .before .if3 .left in
+    let h6 = c .before .before .before .before .before .before .before .before .if2 .left in
+    let h7 = c .before .before .before .before .before .before .before .before .before .before .if1 .left in
+    simp (lt-ltb, le-ltb, le-leb, lt-leb, eq-eqb, ne-eqb)
+
+-- src/head.rt:40:9
+returns-8 : tie.Need-returns-8
+unfolding sizesAt
+returns-8 c =
+    let h1 = c .if8 .taken in
+    let h2 = c .before .if7 .left in
+    let h3 = c .before .before .if6 .left in
+    let h4 = c .before .before .before .if5 .left in
+    let h5 = c .before .before .before .before .if4 .left in
+    let h6 = c .before .before .before .before .before .before .before .before .if3 .left in
+    let h7 = c .before .before .before .before .before .before .before .before .before .if2 .left in
+    let h8 = c .before .before .before .before .before .before .before .before .before .before .before .if1 .left in
+    simp (lt-ltb, le-ltb, le-leb, lt-leb, eq-eqb, ne-eqb)
+
+-- src/head.rt:42:12
+add-t10 : tie.Need-add-t10
+add-t10 c = search needs
+
+-- src/head.rt:12:1
+returns-9 : tie.Need-returns-9
+unfolding sizesAt
+returns-9 c =
+    let h1 = c .if8 .left in
+    let h2 = c .before .if7 .left in
+    let h3 = c .before .before .if6 .left in
+    let h4 = c .before .before .before .if5 .left in
+    let h5 = c .before .before .before .before .if4 .left in
+    let h6 = c .before .before .before .before .before .before .before .before .if3 .left in
+    let h7 = c .before .before .before .before .before .before .before .before .before .if2 .left in
+    let h8 = c .before .before .before .before .before .before .before .before .before .before .before .if1 .left in
+    simp (lt-ltb, le-ltb, le-leb, lt-leb, eq-eqb, ne-eqb)
+
+pub sizes-spec : {M : Type 1} → statement M
+sizes-spec =
+    tie.close
+    (tie.spec
+    returns
+    shared-slice-read-if2
+    returns-2
+    sub-if3
+    returns-3
+    add-registers
+    shared-slice-read-registers
+    add-arrays
+    shared-slice-read-arrays
+    add-functions
+    shared-slice-read-functions
+    returns-4
+    returns-5
+    returns-6
+    returns-7
+    returns-8
+    add-t10
+    returns-9)

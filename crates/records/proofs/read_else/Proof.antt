@@ -1,0 +1,29 @@
+use Rattle.format.specs.Format.{rowAt}
+use Rattle.records.proofs.Laws.{whole}
+use borrow.Author.Needs.{needs}
+use Rattle.records.proofs.read_else.Statement.{statement}
+use Rattle.records.proofs.read_else.Tie as tie
+use Rattle.records.proofs.read_else.Reads as reads
+use Rattle.records.proofs.read_else.Lts as lts
+use Rattle.format.proofs.place_at.Reads as place-at-reads
+
+-- src/records.rt:260:26
+add-place-at : tie.Need-add-place-at
+add-place-at c = search needs
+
+-- src/records.rt:260:9
+place-at-requires : tie.Need-place-at-requires
+place-at-requires c κs = search needs
+
+-- src/records.rt:261:39
+add-t5 : tie.Need-add-t5
+add-t5 c = search needs
+
+-- src/records.rt:256:1
+returns : tie.Need-returns
+unfolding rowAt
+returns c =
+    simp (whole (c .before .before .args .t .now) (c .before .before .args .at) 3 (c .before .before .pre), c .place-at .ensures .0)
+
+pub read-else-spec : {M : Type 1} → statement M
+read-else-spec = tie.close (tie.spec add-place-at place-at-requires add-t5 returns)

@@ -1,0 +1,29 @@
+use Rattle.format.specs.Format.{rowAt}
+use Rattle.records.proofs.Laws.{whole}
+use borrow.Author.Needs.{needs}
+use Rattle.records.proofs.read_endwhile.Statement.{statement}
+use Rattle.records.proofs.read_endwhile.Tie as tie
+use Rattle.records.proofs.read_endwhile.Reads as reads
+use Rattle.records.proofs.read_endwhile.Lts as lts
+use Rattle.format.proofs.place_at.Reads as place-at-reads
+
+-- src/records.rt:284:26
+add-place-at : tie.Need-add-place-at
+add-place-at c = search needs
+
+-- src/records.rt:284:9
+place-at-requires : tie.Need-place-at-requires
+place-at-requires c κs = search needs
+
+-- src/records.rt:285:43
+add-t5 : tie.Need-add-t5
+add-t5 c = search needs
+
+-- src/records.rt:280:1
+returns : tie.Need-returns
+unfolding rowAt
+returns c =
+    simp (whole (c .before .before .args .t .now) (c .before .before .args .at) 3 (c .before .before .pre), c .place-at .ensures .0)
+
+pub read-endwhile-spec : {M : Type 1} → statement M
+read-endwhile-spec = tie.close (tie.spec add-place-at place-at-requires add-t5 returns)

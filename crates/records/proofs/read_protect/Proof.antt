@@ -1,0 +1,64 @@
+use borrow.Author.Tests.{lt-ltb, le-ltb}
+use Rattle.format.specs.Format.{rowAt}
+use Rattle.records.proofs.Laws.{whole}
+use borrow.Author.Needs.{needs}
+use Rattle.records.proofs.read_protect.Statement.{statement}
+use Rattle.records.proofs.read_protect.Tie as tie
+use Rattle.records.proofs.read_protect.Reads as reads
+use Rattle.records.proofs.read_protect.Lts as lts
+
+-- src/records.rt:212:18
+add-dest : tie.Need-add-dest
+add-dest c = search needs
+
+-- src/records.rt:212:16
+shared-slice-read-dest : tie.Need-shared-slice-read-dest
+shared-slice-read-dest c = search needs
+
+-- src/records.rt:213:20
+add-source : tie.Need-add-source
+add-source c = search needs
+
+-- src/records.rt:213:18
+shared-slice-read-source : tie.Need-shared-slice-read-source
+shared-slice-read-source c = search needs
+
+-- src/records.rt:215:9
+returns : tie.Need-returns
+unfolding rowAt
+returns c =
+    let h1 = c .if1 .taken in
+    simp (whole (c .before .before .before .before .args .t .now) (c .before .before .before .before .args .at) 3 (c .before .before .before .before .pre), lt-ltb, le-ltb)
+
+-- src/records.rt:218:9
+returns-2 : tie.Need-returns-2
+unfolding rowAt
+returns-2 c =
+    let h1 = c .if2 .taken in
+    let h2 = c .before .before .if1 .left in
+    simp (whole (c .before .before .before .before .before .before .args .t .now) (c .before .before .before .before .before .before .args .at) 3 (c .before .before .before .before .before .before .pre), lt-ltb, le-ltb)
+
+-- src/records.rt:220:64
+add-t6 : tie.Need-add-t6
+add-t6 c = search needs
+
+-- src/records.rt:208:1
+returns-3 : tie.Need-returns-3
+unfolding rowAt
+returns-3 c =
+    let h1 = c .if2 .left in
+    let h2 = c .before .before .if1 .left in
+    simp (whole (c .before .before .before .before .before .before .args .t .now) (c .before .before .before .before .before .before .args .at) 3 (c .before .before .before .before .before .before .pre), lt-ltb, le-ltb)
+
+pub read-protect-spec : {M : Type 1} → statement M
+read-protect-spec =
+    tie.close
+    (tie.spec
+    add-dest
+    shared-slice-read-dest
+    add-source
+    shared-slice-read-source
+    returns
+    returns-2
+    add-t6
+    returns-3)

@@ -1,0 +1,302 @@
+// One record of code. This is the one place where a kind's byte, its length and its fields are given: code_length has
+// the lengths, decode names the reader of each kind, and a reader tests the fields in their order.
+use format::Decoded;
+use format::byte_at;
+use format::packed_at;
+use format::packed_in;
+use format::place_at;
+use format::word_at;
+use model::Record;
+use model::Simple;
+use model::Sizes;
+ghost use mathlib.Core.Path.{_≡_};
+ghost use Prim.Native.Nat.{_+_, _≤_, _<_};
+ghost use lib.ListN.{length};
+ghost use Rattle.format.specs.Format.{codeLength, decodeAt, rowAt};
+
+// The length of a record of code, the kind byte counted; 0 where no code has that kind.
+pub fn code_length(kind: u8) -> usize
+    ensures { λ r. ⌜ (r ≡ codeLength kind) × (r < 12) ⌝ }
+{
+    match kind {
+        16 => 6,
+        17 => 5,
+        18 => 5,
+        19 => 4,
+        20 => 4,
+        21 => 1,
+        22 => 3,
+        23 => 3,
+        24 => 3,
+        32 => 4,
+        33 => 3,
+        34 => 1,
+        35 => 11,
+        36 => 3,
+        37 => 1,
+        _ => 0,
+    }
+}
+
+fn read_const(t: &[u8], at: usize, z: Sizes) -> Decoded
+    requires { ⌜ at + 6 ≤ length (now t) ⌝ }
+    ensures { λ r. ⌜ r ≡ rowAt 16 z (now (t .entry)) at ⌝ }
+{
+    let dest = t[at + 1];
+    let value = word_at(t, at + 2);
+    if z.registers <= dest {
+        return Decoded::Bad(4, at);
+    }
+    Decoded::Got(Record::Do(Simple::Const { dest, value }), at + 6)
+}
+
+fn read_op(t: &[u8], at: usize, z: Sizes) -> Decoded
+    requires { ⌜ at + 5 ≤ length (now t) ⌝ }
+    ensures { λ r. ⌜ r ≡ rowAt 17 z (now (t .entry)) at ⌝ }
+{
+    let dest = t[at + 1];
+    let op = t[at + 2];
+    let left = t[at + 3];
+    let right = t[at + 4];
+    if z.registers <= dest {
+        return Decoded::Bad(4, at);
+    }
+    if 8 <= op {
+        return Decoded::Bad(4, at);
+    }
+    if z.registers <= left {
+        return Decoded::Bad(4, at);
+    }
+    if z.registers <= right {
+        return Decoded::Bad(4, at);
+    }
+    Decoded::Got(
+        Record::Do(Simple::Op {
+            dest,
+            op,
+            left,
+            right,
+        }),
+        at + 5,
+    )
+}
+
+fn read_select(t: &[u8], at: usize, z: Sizes) -> Decoded
+    requires { ⌜ at + 5 ≤ length (now t) ⌝ }
+    ensures { λ r. ⌜ r ≡ rowAt 18 z (now (t .entry)) at ⌝ }
+{
+    let dest = t[at + 1];
+    let cond = t[at + 2];
+    let yes = t[at + 3];
+    let no = t[at + 4];
+    if z.registers <= dest {
+        return Decoded::Bad(4, at);
+    }
+    if z.registers <= cond {
+        return Decoded::Bad(4, at);
+    }
+    if z.registers <= yes {
+        return Decoded::Bad(4, at);
+    }
+    if z.registers <= no {
+        return Decoded::Bad(4, at);
+    }
+    Decoded::Got(
+        Record::Do(Simple::Select {
+            dest,
+            cond,
+            yes,
+            no,
+        }),
+        at + 5,
+    )
+}
+
+fn read_load(t: &[u8], at: usize, z: Sizes) -> Decoded
+    requires { ⌜ at + 4 ≤ length (now t) ⌝ }
+    ensures { λ r. ⌜ r ≡ rowAt 19 z (now (t .entry)) at ⌝ }
+{
+    let dest = t[at + 1];
+    let array = t[at + 2];
+    let index = t[at + 3];
+    if z.registers <= dest {
+        return Decoded::Bad(4, at);
+    }
+    if z.arrays <= array {
+        return Decoded::Bad(4, at);
+    }
+    if z.registers <= index {
+        return Decoded::Bad(4, at);
+    }
+    Decoded::Got(Record::Do(Simple::Load { dest, array, index }), at + 4)
+}
+
+fn read_store(t: &[u8], at: usize, z: Sizes) -> Decoded
+    requires { ⌜ at + 4 ≤ length (now t) ⌝ }
+    ensures { λ r. ⌜ r ≡ rowAt 20 z (now (t .entry)) at ⌝ }
+{
+    let array = t[at + 1];
+    let index = t[at + 2];
+    let source = t[at + 3];
+    if z.arrays <= array {
+        return Decoded::Bad(4, at);
+    }
+    if z.registers <= index {
+        return Decoded::Bad(4, at);
+    }
+    if z.registers <= source {
+        return Decoded::Bad(4, at);
+    }
+    Decoded::Got(
+        Record::Do(Simple::Store {
+            array,
+            index,
+            source,
+        }),
+        at + 4,
+    )
+}
+
+fn read_update(t: &[u8], at: usize, z: Sizes) -> Decoded
+    requires { ⌜ at + 3 ≤ length (now t) ⌝ }
+    ensures { λ r. ⌜ r ≡ rowAt 22 z (now (t .entry)) at ⌝ }
+{
+    let register = t[at + 1];
+    let sense = t[at + 2];
+    if z.registers <= register {
+        return Decoded::Bad(4, at);
+    }
+    if 2 <= sense {
+        return Decoded::Bad(4, at);
+    }
+    Decoded::Got(
+        Record::Do(Simple::Update {
+            register,
+            sense: sense == 1,
+        }),
+        at + 3,
+    )
+}
+
+fn read_protect(t: &[u8], at: usize, z: Sizes) -> Decoded
+    requires { ⌜ at + 3 ≤ length (now t) ⌝ }
+    ensures { λ r. ⌜ r ≡ rowAt 23 z (now (t .entry)) at ⌝ }
+{
+    let dest = t[at + 1];
+    let source = t[at + 2];
+    if z.registers <= dest {
+        return Decoded::Bad(4, at);
+    }
+    if z.registers <= source {
+        return Decoded::Bad(4, at);
+    }
+    Decoded::Got(Record::Do(Simple::Protect { dest, source }), at + 3)
+}
+
+fn read_call(t: &[u8], at: usize, z: Sizes) -> Decoded
+    requires { ⌜ at + 3 ≤ length (now t) ⌝ }
+    ensures { λ r. ⌜ r ≡ rowAt 24 z (now (t .entry)) at ⌝ }
+{
+    let function = t[at + 1];
+    let mark = t[at + 2];
+    if z.functions <= function {
+        return Decoded::Bad(4, at);
+    }
+    if 2 <= mark {
+        return Decoded::Bad(4, at);
+    }
+    Decoded::Got(
+        Record::Call {
+            function,
+            mark: mark == 1,
+        },
+        at + 3,
+    )
+}
+
+fn read_if(t: &[u8], at: usize, z: Sizes) -> Decoded
+    requires { ⌜ at + 4 ≤ length (now t) ⌝ }
+    ensures { λ r. ⌜ r ≡ rowAt 32 z (now (t .entry)) at ⌝ }
+{
+    let register = t[at + 1];
+    let to = place_at(t, at + 2);
+    if z.registers <= register {
+        return Decoded::Bad(4, at);
+    }
+    Decoded::Got(Record::If { register, to }, at + 4)
+}
+
+fn read_else(t: &[u8], at: usize, z: Sizes) -> Decoded
+    requires { ⌜ at + 3 ≤ length (now t) ⌝ }
+    ensures { λ r. ⌜ r ≡ rowAt 33 z (now (t .entry)) at ⌝ }
+{
+    let to = place_at(t, at + 1);
+    Decoded::Got(Record::Else { to }, at + 3)
+}
+
+fn read_while(t: &[u8], at: usize, z: Sizes) -> Decoded
+    requires { ⌜ at + 11 ≤ length (now t) ⌝ }
+    ensures { λ r. ⌜ r ≡ rowAt 35 z (now (t .entry)) at ⌝ }
+{
+    let register = t[at + 1];
+    let to = place_at(t, at + 2);
+    let env = packed_at(t, at + 4);
+    if z.registers <= register {
+        return Decoded::Bad(4, at);
+    }
+    if !packed_in(z, env) {
+        return Decoded::Bad(4, at);
+    }
+    Decoded::Got(Record::While { register, to, env }, at + 11)
+}
+
+fn read_endwhile(t: &[u8], at: usize, z: Sizes) -> Decoded
+    requires { ⌜ at + 3 ≤ length (now t) ⌝ }
+    ensures { λ r. ⌜ r ≡ rowAt 36 z (now (t .entry)) at ⌝ }
+{
+    let to = place_at(t, at + 1);
+    Decoded::Got(Record::Endwhile { to }, at + 3)
+}
+
+// The record due at `at`: an unknown kind is 3, a record cut short 2, a field out of range 4, in that order.
+pub fn decode(t: &[u8], at: usize, z: Sizes) -> Decoded
+    ensures { λ r. ⌜ r ≡ decodeAt z (now (t .entry)) at ⌝ }
+{
+    if t.len() <= at {
+        return Decoded::Bad(2, at);
+    }
+    let kind = t[at];
+    let n = code_length(kind);
+    if n == 0 {
+        return Decoded::Bad(3, at);
+    }
+    if t.len() - at < n {
+        return Decoded::Bad(2, at);
+    }
+    fields(t, at, z, kind)
+}
+
+// The fields of a record that is whole.
+fn fields(t: &[u8], at: usize, z: Sizes, kind: u8) -> Decoded
+    requires { ⌜ (at < length (now t)) × (at + codeLength kind ≤ length (now t)) ⌝ }
+    ensures { λ r. ⌜ r ≡ rowAt kind z (now (t .entry)) at ⌝ }
+{
+    match kind {
+        16 => read_const(t, at, z),
+        17 => read_op(t, at, z),
+        18 => read_select(t, at, z),
+        19 => read_load(t, at, z),
+        20 => read_store(t, at, z),
+        21 => Decoded::Got(Record::Do(Simple::Init), at + 1),
+        22 => read_update(t, at, z),
+        23 => read_protect(t, at, z),
+        24 => read_call(t, at, z),
+        32 => read_if(t, at, z),
+        33 => read_else(t, at, z),
+        34 => Decoded::Got(Record::Endif, at + 1),
+        35 => read_while(t, at, z),
+        36 => read_endwhile(t, at, z),
+        37 => Decoded::Got(Record::Return, at + 1),
+        _ => Decoded::Bad(3, at),
+    }
+}
