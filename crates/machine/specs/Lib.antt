@@ -4,3 +4,4 @@ pub mod Runs
 pub mod Turns
 pub mod Everywhere
 pub mod Stops
+pub mod OneStep

@@ -14,6 +14,7 @@ use Rattle.model.specs.declared.Record.the-variants.{Call}
 use Rattle.format.specs.Layout.{recordOf, wordsFrom, tableWith}
 use Rattle.machine.specs.declared.State.{State}
 use Rattle.machine.specs.declared.Acted.{Acted}
+use Rattle.machine.specs.declared.Took.{Took}
 use Rattle.machine.specs.declared.Turn.{Turn}
 use Rattle.machine.specs.declared.Told.the-variants.{Got}
 use Rattle.machine.specs.Directives.{directiveAt, directivesFrom, bytesOf}
@@ -39,6 +40,10 @@ pub record Ready (z : Sizes) (t : List ℕ) (s : State) (mem : List ℕ) : Type 
 -- a turn without the next directive's place
 abbrev pub actedOf : Turn → Acted
 actedOf r = record { stop = r .stop; state = r .state; seen = r .seen }
+
+-- what a step did, where its state was lent and is s afterwards
+abbrev pub actedWith : Took → State → Acted
+actedWith k s = record { stop = k .stop; state = s; seen = k .seen }
 
 module _ (z : Sizes) (t : List ℕ) (s : State) where
   -- the step was made, under dir

@@ -77,6 +77,12 @@ pub struct Acted {
     pub seen: usize,
 }
 
+// What a step answers where its state is lent: stop is 0 where it was made; the bytes observed.
+pub struct Took {
+    pub stop: u8,
+    pub seen: usize,
+}
+
 // One turn: the same, with the next directive's place.
 pub struct Turn {
     pub stop: u8,

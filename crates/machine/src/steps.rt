@@ -6,6 +6,7 @@ use crate::Plan;
 use crate::State;
 use crate::Stop;
 use crate::Told;
+use crate::Took;
 use crate::Turn;
 use crate::bytes::directive_at;
 use crate::bytes::put_observation;
@@ -25,7 +26,7 @@ ghost use mathlib.Core.Bool.{Bool};
 ghost use Rattle.format.specs.Layout.{wordsFrom, tableWith};
 ghost use Rattle.machine.specs.States.{words, applied, Lands};
 ghost use Rattle.machine.specs.Runs.{ran, total, started};
-ghost use Rattle.machine.specs.Turns.{lent, Acts, Turns, Ready};
+ghost use Rattle.machine.specs.Turns.{lent, actedWith, Acts, Turns, Ready};
 
 fn halted(stop: u8, state: State, seen: usize) -> Acted
     ensures { λ r. ⌜ (r .stop ≡ stop) × (r .state ≡ state) × (r .seen ≡ seen) ⌝ }
@@ -88,6 +89,75 @@ fn act(
     }
 }
 
+// What `act` did in two parts: what goes back into the lent state, and what the step answers.
+fn state_of(w: Acted) -> State
+    ensures { λ r. ⌜ r ≡ w .state ⌝ }
+{
+    let new = w.state;
+    new
+}
+
+fn took(w: Acted) -> Took
+    ensures { λ r. ⌜ (r .stop ≡ w .stop) × (r .seen ≡ w .seen) ⌝ }
+{
+    Took {
+        stop: w.stop,
+        seen: w.seen,
+    }
+}
+
+// The two parts put together.
+fn acted(k: Took, state: State) -> Acted
+    ensures { λ r. ⌜ r ≡ actedWith k state ⌝ }
+{
+    Acted {
+        stop: k.stop,
+        state,
+        seen: k.seen,
+    }
+}
+
+// 01: "One step is given the machine's state by reference and updates it there." The body and the next one's are proved by
+// hand, by a walk: a change to either is a change to its proof file.
+fn step(
+    s: &mut State,
+    t: &[u8],
+    z: Sizes,
+    dir: Directive,
+    seen: usize,
+    regs: &mut [u32],
+    mem: &mut [u32],
+    obs: &mut [u8],
+) -> Took
+    requires { ⌜ Ready z (now t) (now s) (now mem) × (seen ≤ length (now obs)) ⌝ }
+    ensures { λ r. ⌜ Acts z (now (t .entry)) (now (s .entry)) dir seen (lent (now (regs .entry)) (now (mem .entry)) (now (obs .entry))) (actedWith r (now (s .exit))) (lent (now (regs .exit)) (now (mem .exit)) (now (obs .exit))) ⌝ }
+{
+    let old = *s;
+    let w = act(t, z, old, dir, seen, regs, mem, obs);
+    let new = state_of(w);
+    *s = new;
+    took(w)
+}
+
+// The step, for a caller that holds its state by value.
+fn lent_step(
+    t: &[u8],
+    z: Sizes,
+    s: State,
+    dir: Directive,
+    seen: usize,
+    regs: &mut [u32],
+    mem: &mut [u32],
+    obs: &mut [u8],
+) -> Acted
+    requires { ⌜ Ready z (now t) s (now mem) × (seen ≤ length (now obs)) ⌝ }
+    ensures { λ r. ⌜ Acts z (now (t .entry)) s dir seen (lent (now (regs .entry)) (now (mem .entry)) (now (obs .entry))) r (lent (now (regs .exit)) (now (mem .exit)) (now (obs .exit))) ⌝ }
+{
+    let mut state = s;
+    let k = step(&mut state, t, z, dir, seen, regs, mem, obs);
+    acted(k, state)
+}
+
 // The place of the entry's RETURN: the table's last byte.
 fn last_place(t: &[u8]) -> usize
     ensures { λ r. ⌜ r ≡ length (now (t .entry)) - 1 ⌝ }
@@ -124,7 +194,7 @@ fn one_turn(
     match told {
         Told::Bad => ended(20, s, at, seen),
         Told::Got(dir, next) => {
-            let w = act(t, z, s, dir, seen, regs, mem, obs);
+            let w = lent_step(t, z, s, dir, seen, regs, mem, obs);
             let state = w.state;
             Turn {
                 stop: w.stop,

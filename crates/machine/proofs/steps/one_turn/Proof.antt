@@ -8,7 +8,7 @@ use Rattle.machine.proofs.steps.one_turn.Tie as tie
 use Rattle.machine.proofs.steps.one_turn.Reads as reads
 use Rattle.machine.proofs.steps.one_turn.Lts as lts
 use Rattle.machine.proofs.bytes.directive_at.Reads as directive-at-reads
-use Rattle.machine.proofs.steps.act.Reads as act-reads
+use Rattle.machine.proofs.steps.lent_step.Reads as lent-step-reads
 use Rattle.machine.proofs.steps.ended.Reads as ended-reads
 use Rattle.machine.proofs.steps.last_place.Reads as last-place-reads
 
@@ -58,8 +58,8 @@ enum-known-told : tie.Need-enum-known-told
 enum-known-told c = search needs
 
 -- src/steps.rt:112:33
-act-requires : tie.Need-act-requires
-act-requires c κs = search needs
+lent-step-requires : tie.Need-lent-step-requires
+lent-step-requires c κs = search needs
 
 -- src/steps.rt:87:1
 returns-3 : tie.Need-returns-3
@@ -87,7 +87,7 @@ returns-4 c =
     let a = c .before .before .before .before .before .before .before .before .before .before .before .before .before .before .before .before .before .before .before .before .before .before .before .args in
     let ready = c .before .before .before .before .before .before .before .before .before .before .before .before .before .before .before .before .before .before .before .before .before .before .before .pre .0 in
     let last = c .before .before .before .before .before .before .before .before .before .before .before .before .before .before .before .before .before .last-place .ensures in
-    turn-acts (a .z) (a .t .now) (a .s) (a .dirs .now) (a .at) (a .seen) (lent (a .regs .now) (a .mem .now) (a .obs .now)) ready _ _ _ _ refl (λ q. c .before .before .before .before .before .before .before .before .before .before .before .before .before .before .before .before .if1 .left (q ∙ sym last)) (c .before .before .before .before .before .before .before .before .before .before .before .before .before .before .before .if2 .left) (sym (c .before .before .before .before .before .before .before .before .before .before .before .before .before .before .directive-at .ensures) ∙ c .before .before .before .before .before .before .before .before .before .before .before .before .told .given .1) (c .before .before .before .before .before .before .before .act .ensures)
+    turn-acts (a .z) (a .t .now) (a .s) (a .dirs .now) (a .at) (a .seen) (lent (a .regs .now) (a .mem .now) (a .obs .now)) ready _ _ _ _ refl (λ q. c .before .before .before .before .before .before .before .before .before .before .before .before .before .before .before .before .if1 .left (q ∙ sym last)) (c .before .before .before .before .before .before .before .before .before .before .before .before .before .before .before .if2 .left) (sym (c .before .before .before .before .before .before .before .before .before .before .before .before .before .before .directive-at .ensures) ∙ c .before .before .before .before .before .before .before .before .before .before .before .before .told .given .1) (c .before .before .before .before .before .before .before .lent-step .ensures)
 
 pub one-turn-spec : {M : Type 1} → statement M
 one-turn-spec =
@@ -102,7 +102,7 @@ one-turn-spec =
     enum-told
     ended-requires-3
     enum-known-told
-    act-requires
+    lent-step-requires
     returns-3
     same-length
     same-length-2
