@@ -1994,7 +1994,7 @@ pub fn check_case(seed: u64) -> (Vec<u8>, Expected) {
 }
 
 /// Everything that is lent to a run.
-#[derive(Clone, Debug)]
+#[derive(Clone, Debug, PartialEq, Eq)]
 pub struct RunCase {
     pub table: Vec<u8>,
     pub registers: Vec<u32>,

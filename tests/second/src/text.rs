@@ -42,7 +42,7 @@ pub fn unhex(text: &str) -> Option<Vec<u8>> {
         .collect()
 }
 
-fn words(of: &[u32]) -> String {
+pub fn words(of: &[u32]) -> String {
     if of.is_empty() {
         return "-".to_string();
     }
@@ -50,14 +50,14 @@ fn words(of: &[u32]) -> String {
     words.join(",")
 }
 
-fn unwords(text: &str) -> Option<Vec<u32>> {
+pub fn unwords(text: &str) -> Option<Vec<u32>> {
     if text == "-" {
         return Some(Vec::new());
     }
     text.split(',').map(|word| word.parse().ok()).collect()
 }
 
-fn shows(part: Part) -> String {
+pub fn shows(part: Part) -> String {
     let slice = match part.slice {
         Slice::Table => "table",
         Slice::Directives => "directives",

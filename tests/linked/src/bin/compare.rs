@@ -1,0 +1,124 @@
+//! `compare quick`, `compare long [SEED] [--minutes M]`: holds the proved archive against the second implementation, on cases
+//! from seeds. `--break ERROR` puts an error in (see `linked::planted`), to see one found. Ends with 1 where the two differ, or
+//! where something that should come up never did.
+
+use linked::answer::compared;
+use linked::case::Case;
+use linked::planted::{sides, Error};
+use linked::report::report;
+use linked::shrink::shrunk;
+use linked::sorts::SORTS;
+use linked::tally::Tally;
+use std::process::exit;
+use std::time::{Duration, Instant};
+
+/// The rounds of `quick`: half a minute on one core of 2026.
+const QUICK_ROUNDS: u64 = 6_000;
+const BETWEEN_LINES: Duration = Duration::from_secs(5);
+const SAVED: &str = concat!(env!("CARGO_MANIFEST_DIR"), "/../../target/failed-case.txt");
+
+const USAGE: &str = "compare quick | long [SEED] [--minutes M], and: --break ERROR";
+
+struct Plan {
+    seed: u64,
+    rounds: Option<u64>,
+    end: Option<Duration>,
+    error: Option<Error>,
+}
+
+fn usage(what: &str) -> ! {
+    eprintln!("{}\n{}", what, USAGE);
+    let errors: Vec<String> = Error::ALL.iter().map(|error| format!("{:?}", error)).collect();
+    eprintln!("errors: {}", errors.join(" "));
+    exit(2)
+}
+
+fn plan_of(arguments: &[String]) -> Plan {
+    let mut plan = Plan { seed: 1, rounds: None, end: None, error: None };
+    let mut words = arguments.iter();
+    match words.next().map(String::as_str) {
+        Some("quick") => plan.rounds = Some(QUICK_ROUNDS),
+        Some("long") => {}
+        _ => usage("quick or long?"),
+    }
+    while let Some(word) = words.next() {
+        match word.as_str() {
+            "--minutes" => match words.next().and_then(|word| word.parse::<f64>().ok()) {
+                Some(minutes) => plan.end = Some(Duration::from_secs_f64(60.0 * minutes)),
+                None => usage("how many minutes?"),
+            },
+            "--break" => match words.next().and_then(|word| Error::named(word)) {
+                Some(error) => plan.error = Some(error),
+                None => usage("which error?"),
+            },
+            seed => match seed.parse() {
+                Ok(seed) if plan.rounds.is_none() => plan.seed = seed,
+                _ => usage("what is this?"),
+            },
+        }
+    }
+    plan
+}
+
+/// Makes a failing case small, tells it, and ends.
+fn fail(found: &str, case: Case, error: Option<Error>) -> ! {
+    eprintln!("a difference ({}); making it small", found);
+    let (rattle, second) = sides(error);
+    let small = shrunk(case, &|case| compared(case, &*rattle, &*second).is_err());
+    if let Err(error) = std::fs::write(SAVED, small.text() + "\n") {
+        eprintln!("cannot write {}: {}", SAVED, error);
+    }
+    let replay = match error {
+        None => "tests/run replay".to_string(),
+        Some(error) => format!("tests/run replay --break {:?}", error),
+    };
+    if let Err(difference) = compared(&small, &*rattle, &*second) {
+        println!("DIFFERENT ({}):\n\n{}", found, report(&small, &difference, &replay, SAVED));
+    }
+    exit(1)
+}
+
+fn main() {
+    let arguments: Vec<String> = std::env::args().skip(1).collect();
+    let plan = plan_of(&arguments);
+    let (rattle, second) = sides(plan.error);
+    let mut tally = Tally::default();
+    let start = Instant::now();
+    let mut told = start;
+    let mut seed = plan.seed;
+    while plan.rounds.map_or(true, |rounds| seed < plan.seed + rounds)
+        && plan.end.map_or(true, |end| start.elapsed() < end)
+    {
+        for sort in SORTS {
+            for case in (sort.make)(seed) {
+                match compared(&case, &*rattle, &*second) {
+                    Ok(answer) => tally.count(sort.name, &case, &answer),
+                    Err(_) => fail(&format!("{}, seed {}", sort.name, seed), case, plan.error),
+                }
+            }
+        }
+        seed += 1;
+        if told.elapsed() > BETWEEN_LINES {
+            told = Instant::now();
+            eprintln!(
+                "{} cases alike, seed {}, {} s",
+                tally.cases,
+                seed,
+                start.elapsed().as_secs()
+            );
+        }
+    }
+    print!("{}", tally);
+    let missing = tally.missing();
+    if !missing.is_empty() {
+        println!("NEVER CAME UP: {}", missing.join(", "));
+        exit(1);
+    }
+    println!(
+        "{} cases alike, seeds {} to {}, {} s",
+        tally.cases,
+        plan.seed,
+        seed - 1,
+        start.elapsed().as_secs()
+    );
+}
