@@ -5,14 +5,14 @@ use second::gen::{self, Rng, RunCase, Shape};
 use second::machine::{kind, Directive, MAX_DIRECTIVES};
 use second::{check, Verdict};
 
-/// The shape of generated tables that come to nearly so many bytes.
+/// The shape of generated tables that come to nearly so many bytes. Past fifteen sixteenths only what must be written is, which
+/// is less than the rest of a table of 32,768 bytes.
 pub fn shape_of(bytes: usize) -> Shape {
     let functions = (bytes / 512).max(2).min(32);
     Shape {
         functions: (functions.min(4), functions),
-        phrases: (4 + bytes / 128, 8 + bytes / 32),
-        // What must still be written past it stays under 700 bytes.
-        bytes: (bytes * 15 / 16).min(bytes.saturating_sub(700).max(bytes / 2)),
+        phrases: (8 + bytes / 128, 24 + bytes / 32),
+        bytes: bytes * 15 / 16,
     }
 }
 

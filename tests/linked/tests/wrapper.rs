@@ -58,19 +58,15 @@ fn the_runs_of_the_benchmark_use_their_whole_list() {
     }
 }
 
-#[inline(never)]
-fn fill(bytes: usize) -> u64 {
-    let mut room = [0u8; 256];
-    room[bytes % 256] = 1;
-    let below = if bytes > 256 { fill(bytes - 256) } else { 0 };
-    below + std::hint::black_box(&room).iter().map(|&byte| u64::from(byte)).sum::<u64>()
-}
-
+/// The check calls itself for each block inside a block.
 #[test]
 fn the_stack_is_measured() {
+    let check = |table: Vec<u8>| {
+        stack::depth_of(|| {
+            linked::check(&table);
+        })
+    };
     assert_eq!(stack::depth_of(|| {}), 0);
-    let depth = stack::depth_of(|| {
-        std::hint::black_box(fill(65_536));
-    });
-    assert!((65_536..131_072).contains(&depth), "{}", depth);
+    let (straight, nested) = (check(tables::straight(1_024)), check(tables::nested(1_024)));
+    assert!(0 < straight && 2 * straight < nested, "{} and {}", straight, nested);
 }
