@@ -56,7 +56,7 @@ pub fn straight(bytes: usize) -> Vec<u8> {
     )
 }
 
-/// Blocks inside blocks, sixteen deep, over and over.
+/// Blocks inside blocks, sixteen deep, over and over, in the last of 32 functions: nothing goes deeper.
 pub fn nested(bytes: usize) -> Vec<u8> {
     let mut phrase = String::new();
     for level in 0..16 {
@@ -66,8 +66,10 @@ pub fn nested(bytes: usize) -> Vec<u8> {
     for level in (0..16).rev() {
         phrase.push_str(if level % 4 == 3 { "endwhile\n" } else { "else\nendif\n" });
     }
+    let signatures = "signature unknown PPPP/SS unknown SSSS/SS\n".repeat(32);
+    let others = "return\n".repeat(31);
     filled(
-        "sizes 4 2 1\narray 16\narray 16\nsignature unknown PPPP/SS unknown SSSS/SS\n",
+        &format!("sizes 4 2 32\narray 16\narray 16\n{}{}", signatures, others),
         &phrase,
         "return\n",
         bytes,

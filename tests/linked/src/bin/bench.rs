@@ -1,5 +1,6 @@
 //! `bench`: check and run of the proved archive against the second implementation, in one process, as ratios; how time grows
-//! with the table; and how deep the stack goes. `bench --short` takes fewer rounds.
+//! with the table; and how deep the stack goes. `--short` takes fewer rounds; `--ratios` leaves the times out, which say nothing
+//! under an emulator.
 
 use linked::sides::{Rattle, Second, Side};
 use linked::{stack, tables};
@@ -10,8 +11,15 @@ use std::time::{Duration, Instant};
 const KB: usize = 1_024;
 const SIZES: [usize; 6] = [KB, 2 * KB, 4 * KB, 8 * KB, 16 * KB, 32 * KB];
 const TABLES_OF_A_SIZE: usize = 12;
-/// Each side's share of a round takes at least so long, that the clock is fine enough.
-const LEAST: Duration = Duration::from_millis(4);
+/// Each side's share of a round takes at least so long: enough for the clock, and short enough that other programs on the host
+/// leave some rounds alone.
+const LEAST: Duration = Duration::from_millis(1);
+
+struct Plan {
+    rounds: u32,
+    /// Times are printed too.
+    absolute: bool,
+}
 
 /// Seconds that one pass over the inputs takes on each side.
 struct Times {
@@ -34,11 +42,11 @@ fn seconds(work: &mut dyn FnMut(), times: u32) -> f64 {
 }
 
 /// The best of several rounds, the two sides in turn.
-fn race(rounds: u32, rattle: &mut dyn FnMut(), second: &mut dyn FnMut()) -> Times {
+fn race(plan: &Plan, rattle: &mut dyn FnMut(), second: &mut dyn FnMut()) -> Times {
     let enough = |once: f64| (LEAST.as_secs_f64() / once.max(1e-9)).ceil() as u32;
     let (ours, theirs) = (enough(seconds(rattle, 1)), enough(seconds(second, 1)));
     let mut best = Times { rattle: f64::MAX, second: f64::MAX };
-    for _ in 0..rounds {
+    for _ in 0..plan.rounds {
         best.rattle = best.rattle.min(seconds(rattle, ours));
         best.second = best.second.min(seconds(second, theirs));
     }
@@ -55,7 +63,7 @@ fn check_all(side: &dyn Side, tables: &[Vec<u8>], functions: &mut usize) {
 }
 
 /// Times the check of tables, all of which pass.
-fn race_checks(rounds: u32, name: &str, tables: &[Vec<u8>]) -> (usize, Times) {
+fn race_checks(plan: &Plan, name: &str, tables: &[Vec<u8>]) -> (usize, Times) {
     for table in tables {
         let verdict = Rattle.check(table);
         assert_eq!(verdict, Second.check(table), "{}", name);
@@ -63,7 +71,7 @@ fn race_checks(rounds: u32, name: &str, tables: &[Vec<u8>]) -> (usize, Times) {
     }
     let bytes = tables.iter().map(Vec::len).sum();
     let (mut ours, mut theirs) = (0, 0);
-    let times = race(rounds, &mut || check_all(&Rattle, tables, &mut ours), &mut || {
+    let times = race(plan, &mut || check_all(&Rattle, tables, &mut ours), &mut || {
         check_all(&Second, tables, &mut theirs)
     });
     assert!(ours > 0 && theirs > 0);
@@ -108,7 +116,7 @@ impl Room {
 }
 
 /// Times runs; gives back the steps of all of them too.
-fn race_runs(rounds: u32, name: &str, cases: &[RunCase]) -> (usize, Times) {
+fn race_runs(plan: &Plan, name: &str, cases: &[RunCase]) -> (usize, Times) {
     let (mut ours, mut theirs) = (Room::new(), Room::new());
     for case in cases {
         let outcome = ours.run(&Rattle, case);
@@ -120,7 +128,7 @@ fn race_runs(rounds: u32, name: &str, cases: &[RunCase]) -> (usize, Times) {
     }
     let steps = ours.steps;
     let times =
-        race(rounds, &mut || ours.run_all(&Rattle, cases), &mut || theirs.run_all(&Second, cases));
+        race(plan, &mut || ours.run_all(&Rattle, cases), &mut || theirs.run_all(&Second, cases));
     assert!(ours.steps > steps && theirs.steps > steps);
     (steps, times)
 }
@@ -143,27 +151,32 @@ fn runs_of(tables: &[Vec<u8>], style: Style, rng: &mut Rng) -> Vec<RunCase> {
         .collect()
 }
 
-fn print_check(name: &str, count: usize, bytes: usize, times: &Times) {
-    let per_byte = |seconds: f64| seconds * 1e9 / bytes as f64;
-    println!(
-        "{:<36} {:>6} {:>10.2} {:>10.2} {:>8.2}",
-        name,
-        bytes / count,
-        per_byte(times.rattle),
-        per_byte(times.second),
-        times.ratio()
-    );
+/// One row: so many bytes or steps on average, the time per unit on each side, the ratio.
+fn print_row(plan: &Plan, name: &str, size: usize, times: &Times, per_second: f64) {
+    print!("{:<36} {:>6}", name, size);
+    if plan.absolute {
+        print!(" {:>10.2} {:>10.2}", times.rattle * per_second, times.second * per_second);
+    }
+    println!(" {:>8.2}", times.ratio());
 }
 
-fn print_run(name: &str, count: usize, steps: usize, times: &Times) {
-    let per_run = |seconds: f64| seconds * 1e6 / count as f64;
+fn print_check(plan: &Plan, name: &str, count: usize, bytes: usize, times: &Times) {
+    print_row(plan, name, bytes / count, times, 1e9 / bytes as f64);
+}
+
+fn print_run(plan: &Plan, name: &str, count: usize, steps: usize, times: &Times) {
+    print_row(plan, name, steps / count, times, 1e6 / count as f64);
+}
+
+fn print_head(plan: &Plan, what: &str, size: &str, unit: &str) {
+    print!("{:<36} {:>6}", what, size);
+    if plan.absolute {
+        print!(" {:>10} {:>10}", "Rattle", "second");
+    }
     println!(
-        "{:<36} {:>6} {:>10.2} {:>10.2} {:>8.2}",
-        name,
-        steps / count,
-        per_run(times.rattle),
-        per_run(times.second),
-        times.ratio()
+        " {:>8}{}",
+        "ratio",
+        if plan.absolute { format!("   ({})", unit) } else { String::new() }
     );
 }
 
@@ -178,13 +191,13 @@ fn exponent(points: &[(f64, f64)]) -> f64 {
     across / along
 }
 
-fn checks(rounds: u32, sized: &[(usize, Vec<Vec<u8>>)]) {
-    println!("check: bytes of a table; ns per byte, Rattle and second implementation; ratio");
+fn checks(plan: &Plan, sized: &[(usize, Vec<Vec<u8>>)]) {
+    print_head(plan, "check", "bytes", "ns per byte");
     let (mut ours, mut theirs) = (Vec::new(), Vec::new());
     for (size, tables) in sized {
         let name = format!("generated, {} KB", size / KB);
-        let (bytes, times) = race_checks(rounds, &name, tables);
-        print_check(&name, tables.len(), bytes, &times);
+        let (bytes, times) = race_checks(plan, &name, tables);
+        print_check(plan, &name, tables.len(), bytes, &times);
         ours.push((bytes as f64, times.rattle));
         theirs.push((bytes as f64, times.second));
     }
@@ -195,8 +208,8 @@ fn checks(rounds: u32, sized: &[(usize, Vec<Vec<u8>>)]) {
         ("32 functions of calls, 32 KB", tables::calling(32 * KB)),
         ("padded with CONST, 32 KB", padded),
     ] {
-        let (bytes, times) = race_checks(rounds, name, &[table]);
-        print_check(name, 1, bytes, &times);
+        let (bytes, times) = race_checks(plan, name, &[table]);
+        print_check(plan, name, 1, bytes, &times);
     }
     let per_byte = |points: &[(f64, f64)], at: usize| points[at].1 / points[at].0;
     let (at_4, at_32) = (2, SIZES.len() - 1);
@@ -210,20 +223,20 @@ fn checks(rounds: u32, sized: &[(usize, Vec<Vec<u8>>)]) {
     );
 }
 
-fn runs(rounds: u32, sized: &[(usize, Vec<Vec<u8>>)], rng: &mut Rng) {
-    println!("run: steps of a run; microseconds per run, Rattle and second implementation; ratio");
+fn runs(plan: &Plan, sized: &[(usize, Vec<Vec<u8>>)], rng: &mut Rng) {
+    print_head(plan, "run", "steps", "microseconds per run");
     let at_every_chance = Style { wrong: 16, noise: 0, steps: 4_000 };
     for (size, tables) in sized {
         for &(path, style) in &[("right path", Style::RIGHT), ("speculating", at_every_chance)] {
             let name = format!("{}, {} KB", path, size / KB);
             let cases = runs_of(tables, style, rng);
-            let (steps, times) = race_runs(rounds, &name, &cases);
-            print_run(&name, cases.len(), steps, &times);
+            let (steps, times) = race_runs(plan, &name, &cases);
+            print_run(plan, &name, cases.len(), steps, &times);
         }
     }
     for (name, case) in long_runs() {
-        let (steps, times) = race_runs(rounds, name, &[case]);
-        print_run(name, 1, steps, &times);
+        let (steps, times) = race_runs(plan, name, &[case]);
+        print_run(plan, name, 1, steps, &times);
     }
     println!();
 }
@@ -259,7 +272,7 @@ fn deepest_run(side: &dyn Side, cases: &[RunCase]) -> usize {
 }
 
 fn stacks(sized: &[(usize, Vec<Vec<u8>>)], rng: &mut Rng) {
-    println!("stack: bytes at the deepest, Rattle and second implementation");
+    println!("{:<36} {:>6} {:>10}", "deepest stack, bytes", "Rattle", "second");
     let mut tables: Vec<Vec<u8>> = sized.iter().flat_map(|(_, tables)| tables.clone()).collect();
     tables.extend([tables::straight(32 * KB), tables::nested(32 * KB), tables::calling(32 * KB)]);
     tables.extend((1..=14).map(|number| match number {
@@ -278,20 +291,23 @@ fn stacks(sized: &[(usize, Vec<Vec<u8>>)], rng: &mut Rng) {
 }
 
 fn main() {
-    let rounds = match std::env::args().nth(1).as_deref() {
-        None => 25,
-        Some("--short") => 5,
-        Some(_) => {
-            eprintln!("bench [--short]");
-            std::process::exit(2);
+    let mut plan = Plan { rounds: 100, absolute: true };
+    for word in std::env::args().skip(1) {
+        match word.as_str() {
+            "--short" => plan.rounds = 20,
+            "--ratios" => plan.absolute = false,
+            _ => {
+                eprintln!("bench [--short] [--ratios]");
+                std::process::exit(2);
+            }
         }
-    };
+    }
     let mut rng = Rng::new(7);
     let sized: Vec<(usize, Vec<Vec<u8>>)> = SIZES
         .iter()
         .map(|&size| (size, tables::generated(size, TABLES_OF_A_SIZE, &mut rng)))
         .collect();
-    checks(rounds, &sized);
-    runs(rounds, &sized, &mut rng);
+    checks(&plan, &sized);
+    runs(&plan, &sized, &mut rng);
     stacks(&sized, &mut rng);
 }
