@@ -32,7 +32,7 @@ pub enum Error {
     RefusalWrites,
     /// A list of 16,385 bytes is taken.
     TakesLongerList,
-    /// The flag is told clear after a wrong return.
+    /// The flag is always told clear.
     FlagToldClear,
     /// The first observation tells whether the last register is odd: what only two runs with different secrets show.
     ObservesSecret,

@@ -19,7 +19,8 @@ pub fn shrunk(case: Case, fails: &dyn Fn(&Case) -> bool) -> Case {
         let before = shrinking.case.clone();
         shrinking.list();
         shrinking.table();
-        shrinking.words();
+        shrinking.zeros(registers_mut);
+        shrinking.zeros(memories_mut);
         shrinking.room();
         if shrinking.case == before || shrinking.late() {
             return shrinking.case;
@@ -113,22 +114,23 @@ impl Shrinking<'_> {
         while at < lines_of(&self.case).len() {
             let lines = lines_of(&self.case);
             let bounds = block_at(&lines, at);
-            if let (Some(&first), Some(&last)) = (bounds.first(), bounds.last()) {
-                let without = |out: &dyn Fn(usize) -> bool| -> Vec<String> {
-                    let kept = lines.iter().enumerate().filter(|(number, _)| !out(*number));
-                    kept.map(|(_, line)| line.clone()).collect()
-                };
-                let whole = without(&|number| first <= number && number <= last);
-                let opened = without(&|number| bounds.contains(&number));
-                let smaller = [whole, opened].to_vec();
-                if smaller.iter().any(|lines| {
-                    with_lines(&self.case, lines).map_or(false, |case| self.try_case(case))
-                }) {
-                    continue;
-                }
+            let whole: Vec<usize> = match (bounds.first(), bounds.last()) {
+                (Some(&first), Some(&last)) => (first..=last).collect(),
+                _ => Vec::new(),
+            };
+            if !self.try_without(&lines, &whole) && !self.try_without(&lines, &bounds) {
+                at += 1;
             }
-            at += 1;
         }
+    }
+
+    /// Leaves out the lines of these numbers.
+    fn try_without(&mut self, lines: &[String], numbers: &[usize]) -> bool {
+        let kept: Vec<String> = (0..lines.len())
+            .filter(|number| !numbers.contains(number))
+            .map(|number| lines[number].clone())
+            .collect();
+        with_lines(&self.case, &kept).map_or(false, |case| self.try_case(case))
     }
 
     /// Makes arrays one word long.
@@ -154,26 +156,18 @@ impl Shrinking<'_> {
     }
 
     /// Makes words 0, in both runs of a pair alike.
-    fn words(&mut self) {
-        for of in 0..2 {
-            let length = match &self.case {
-                Case::Run(run) | Case::Pair { first: run, .. } => {
-                    [&run.registers, &run.memory][of].len()
-                }
-                _ => 0,
-            };
-            let mut chunk = length;
-            while chunk > 0 {
-                for start in (0..length).step_by(chunk) {
-                    self.try_edit(|case| {
-                        let slices = if of == 0 { registers_mut(case) } else { memories_mut(case) };
-                        for words in slices {
-                            words.iter_mut().skip(start).take(chunk).for_each(|word| *word = 0);
-                        }
-                    });
-                }
-                chunk /= 2;
+    fn zeros(&mut self, words_mut: fn(&mut Case) -> Vec<&mut Vec<u32>>) {
+        let length = words_mut(&mut self.case).first().map_or(0, |words| words.len());
+        let mut chunk = length;
+        while chunk > 0 {
+            for start in (0..length).step_by(chunk) {
+                self.try_edit(|case| {
+                    for words in words_mut(case) {
+                        words.iter_mut().skip(start).take(chunk).for_each(|word| *word = 0);
+                    }
+                });
             }
+            chunk /= 2;
         }
     }
 

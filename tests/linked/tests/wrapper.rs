@@ -1,5 +1,8 @@
 //! The wrapper, the tables of the benchmark, and the measure of the stack.
 
+use linked::answer::compared;
+use linked::case::Case;
+use linked::sides::{Rattle, Second};
 use linked::{stack, tables};
 use second::message::{Part, Slice};
 use second::{Outcome, Verdict};
@@ -14,6 +17,20 @@ fn checks_and_shows() {
     let part = linked::shown(FAULT_10, &[], 10, 28);
     assert_eq!(part, Part { slice: Slice::Table, offset: 28, length: 4 });
     assert_eq!(linked::check(&[]), Verdict::Refused { number: 2, place: 0 });
+}
+
+/// Both implementations answer alike to every table of tests/examples.
+#[test]
+fn the_examples_are_answered_alike() {
+    let folder = concat!(env!("CARGO_MANIFEST_DIR"), "/../examples");
+    let mut count = 0;
+    for file in std::fs::read_dir(folder).expect("tests/examples is there") {
+        let table = std::fs::read(file.expect("a file").path()).expect("it can be read");
+        let case = Case::Check { table };
+        assert!(compared(&case, &Rattle, &Second).is_ok(), "{}", case.text());
+        count += 1;
+    }
+    assert!(count >= 15, "{} tables", count);
 }
 
 /// Document 01's marked case 4.

@@ -9,6 +9,7 @@ use linked::report::report;
 use linked::shrink::shrunk;
 use linked::sorts::SORTS;
 use linked::tally::Tally;
+use std::panic::{catch_unwind, AssertUnwindSafe};
 use std::process::exit;
 use std::time::{Duration, Instant};
 
@@ -60,14 +61,18 @@ fn plan_of(arguments: &[String]) -> Plan {
     plan
 }
 
+fn save(case: &Case) {
+    if let Err(error) = std::fs::write(SAVED, case.text() + "\n") {
+        eprintln!("cannot write {}: {}", SAVED, error);
+    }
+}
+
 /// Makes a failing case small, tells it, and ends.
 fn fail(found: &str, case: Case, error: Option<Error>) -> ! {
     eprintln!("a difference ({}); making it small", found);
     let (rattle, second) = sides(error);
     let small = shrunk(case, &|case| compared(case, &*rattle, &*second).is_err());
-    if let Err(error) = std::fs::write(SAVED, small.text() + "\n") {
-        eprintln!("cannot write {}: {}", SAVED, error);
-    }
+    save(&small);
     let replay = match error {
         None => "tests/run replay".to_string(),
         Some(error) => format!("tests/run replay --break {:?}", error),
@@ -78,10 +83,28 @@ fn fail(found: &str, case: Case, error: Option<Error>) -> ! {
     exit(1)
 }
 
+/// All cases of one seed.
+fn compare_round(seed: u64, error: Option<Error>, tally: &mut Tally) {
+    let (rattle, second) = sides(error);
+    for sort in SORTS {
+        for case in (sort.make)(seed) {
+            let found = || format!("{}, seed {}", sort.name, seed);
+            match catch_unwind(AssertUnwindSafe(|| compared(&case, &*rattle, &*second))) {
+                Ok(Ok(answer)) => tally.count(sort.name, &case, &answer),
+                Ok(Err(_)) => fail(&found(), case, error),
+                Err(_) => {
+                    save(&case);
+                    println!("PANICKED ({}):\n\n    tests/run replay < {}", found(), SAVED);
+                    exit(1)
+                }
+            }
+        }
+    }
+}
+
 fn main() {
     let arguments: Vec<String> = std::env::args().skip(1).collect();
     let plan = plan_of(&arguments);
-    let (rattle, second) = sides(plan.error);
     let mut tally = Tally::default();
     let start = Instant::now();
     let mut told = start;
@@ -89,23 +112,12 @@ fn main() {
     while plan.rounds.map_or(true, |rounds| seed < plan.seed + rounds)
         && plan.end.map_or(true, |end| start.elapsed() < end)
     {
-        for sort in SORTS {
-            for case in (sort.make)(seed) {
-                match compared(&case, &*rattle, &*second) {
-                    Ok(answer) => tally.count(sort.name, &case, &answer),
-                    Err(_) => fail(&format!("{}, seed {}", sort.name, seed), case, plan.error),
-                }
-            }
-        }
+        compare_round(seed, plan.error, &mut tally);
         seed += 1;
         if told.elapsed() > BETWEEN_LINES {
             told = Instant::now();
-            eprintln!(
-                "{} cases alike, seed {}, {} s",
-                tally.cases,
-                seed,
-                start.elapsed().as_secs()
-            );
+            let seconds = start.elapsed().as_secs();
+            eprintln!("{} cases alike, seed {}, {} s", tally.cases, seed, seconds);
         }
     }
     print!("{}", tally);
@@ -114,11 +126,6 @@ fn main() {
         println!("NEVER CAME UP: {}", missing.join(", "));
         exit(1);
     }
-    println!(
-        "{} cases alike, seeds {} to {}, {} s",
-        tally.cases,
-        plan.seed,
-        seed - 1,
-        start.elapsed().as_secs()
-    );
+    let seconds = start.elapsed().as_secs();
+    println!("{} cases alike, seeds {} to {}, {} s", tally.cases, plan.seed, seed - 1, seconds);
 }
