@@ -259,7 +259,7 @@ fn directives_of(list: &[u8]) -> Vec<Vec<u8>> {
 fn lines_of(case: &Case) -> Vec<String> {
     let text = asm::disassemble(case.table());
     let records = text.lines().map(|line| {
-        let end = line.find(|letter| letter == ';' || letter == '@').unwrap_or(line.len());
+        let end = line.find(&[';', '@'][..]).unwrap_or(line.len());
         line[..end].trim().to_string()
     });
     records.filter(|line| !line.is_empty()).collect()

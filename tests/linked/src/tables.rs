@@ -8,7 +8,7 @@ use second::{check, Verdict};
 /// The shape of generated tables that come to nearly so many bytes. Past fifteen sixteenths only what must be written is, which
 /// is less than the rest of a table of 32,768 bytes.
 pub fn shape_of(bytes: usize) -> Shape {
-    let functions = (bytes / 512).max(2).min(32);
+    let functions = (bytes / 512).clamp(2, 32);
     Shape {
         functions: (functions.min(4), functions),
         phrases: (8 + bytes / 128, 24 + bytes / 32),
