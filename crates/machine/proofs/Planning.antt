@@ -265,7 +265,7 @@ pub top-at : (xs : List ℕ) (d q : ℕ) → (d ≡ 0 → ⊥) → eqb (getD xs 
 top-at xs zero q h = absurd (h refl)
 top-at xs (suc d) q h = rw sub-one refl
 
-pub top-out : (xs : List ℕ) (d q : ℕ) → length xs ≤ 31 → 31 < d → eqb 0 q ≡ tops (stackOf d xs) q
+pub top-out : (xs : List ℕ) (d q : ℕ) → length xs ≤ 32 → 32 < d → eqb 0 q ≡ tops (stackOf d xs) q
 top-out xs zero q l h = absurd (omega arith)
 top-out xs (suc d) q l h = rw (List·getD-eq-default xs 0 {n = d} (omega arith)) refl
 

@@ -24,10 +24,11 @@ pub enum Listed {
     Wrong(usize),
 }
 
-// The machine's state beside registers and memory.
+// The machine's state beside registers and memory. The stack never needs more than 31 places; with a 32nd the array is four whole
+// vector registers, which are copied without an overlap.
 pub struct State {
     pub place: usize,
-    pub stack: [u16; 31],
+    pub stack: [u16; 32],
     pub depth: u8,
     pub mis: bool,
     pub masked: bool,

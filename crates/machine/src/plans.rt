@@ -518,7 +518,7 @@ fn top_is(s: State, q: usize) -> bool
     if depth == 0 {
         return false;
     }
-    if 31 < depth {
+    if 32 < depth {
         return 0 == q;
     }
     let stack = s.stack;

@@ -26,7 +26,7 @@ pub(crate) fn start(t: &[u8], z: Sizes) -> State
     let entry = one_less(z.functions);
     State {
         place: layout::start_of(t, z, entry),
-        stack: [0u16; 31],
+        stack: [0u16; 32],
         depth: 0,
         mis: false,
         masked: false,
@@ -53,7 +53,7 @@ pub(crate) fn moved(s: State, n: Next) -> State
     }
 }
 
-fn at_depth(n: Next, stack: [u16; 31], depth: u8) -> State
+fn at_depth(n: Next, stack: [u16; 32], depth: u8) -> State
     ensures { λ r. ⌜ (r .place ≡ n .place) × (r .stack ≡ stack) × (r .depth ≡ depth) × (r .mis ≡ n .mis) × (r .masked ≡ n .masked) ⌝ }
 {
     State {
