@@ -24,11 +24,11 @@ pub enum Listed {
     Wrong(usize),
 }
 
-// The machine's state beside registers and memory. The stack never needs more than 31 places; with a 32nd the array is four whole
-// vector registers, which are copied without an overlap.
+// The machine's state beside registers and memory. The stack never needs more than 31 places; with a 32nd, and at the front, it is
+// copied as four whole vector registers. So the state stands first where it is a field, too.
 pub struct State {
-    pub place: usize,
     pub stack: [u16; 32],
+    pub place: usize,
     pub depth: u8,
     pub mis: bool,
     pub masked: bool,
@@ -73,8 +73,8 @@ pub enum Site {
 
 // What the step under one directive did: stop is 0 where it was made. Then the state after it, and the bytes observed.
 pub struct Acted {
-    pub stop: u8,
     pub state: State,
+    pub stop: u8,
     pub seen: usize,
 }
 
@@ -86,8 +86,8 @@ pub struct Took {
 
 // One turn: the same, with the next directive's place.
 pub struct Turn {
-    pub stop: u8,
     pub state: State,
+    pub stop: u8,
     pub at: usize,
     pub seen: usize,
 }

@@ -17,7 +17,7 @@ returns c = search needs
 returns-2 : tie.Need-returns-2
 returns-2 c =
     let a = c .before .before .args in
-    let g : length (a .s .stack) ≡ 32 = sym (length-map (a .s .stack) (λ (v : ℕ). v)) ∙ c .before .before .good .0 .1 .1 .1 .0 .1 .0 .1 in
+    let g : length (a .s .stack) ≡ 32 = sym (length-map (a .s .stack) (λ (v : ℕ). v)) ∙ c .before .before .good .0 .1 .1 .0 .1 .0 .1 in
     top-out (a .s .stack) (a .s .depth) (a .q) (omega (arith, g)) (c .if2 .taken)
 
 -- src/plans.rt:528:14

@@ -82,7 +82,7 @@ returns-2 c =
     let a = c .before .before .before .before .before .args in
     let q = c .before .before .k .given .0 .0 in
     let room = c .before .before .before .before .before .pre q (c .before .before .k .given .1) in
-    let long : length (a .s .stack) ≡ 32 = sym (length-map (a .s .stack) (λ (v : ℕ). v)) ∙ c .before .before .before .before .before .good .0 .1 .1 .1 .0 .1 .0 .1 in
+    let long : length (a .s .stack) ≡ 32 = sym (length-map (a .s .stack) (λ (v : ℕ). v)) ∙ c .before .before .before .before .before .good .0 .1 .1 .0 .1 .0 .1 in
     settled (a .s) (a .n) _ (Push q) (set (a .s .stack) (a .s .depth) q) (a .s .depth + 1) (c .before .before .k .given .1) (c .at-depth2 .ensures) (pushes (a .s .stack) (a .s .depth) q (a .s .depth + 1) q (omega (arith, room, long)) (omega arith) refl) refl
 
 -- src/states.rt:37:1
