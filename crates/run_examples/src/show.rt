@@ -1,4 +1,5 @@
 // Prints a run: what is lent to it, how it ends, what it leaves. All numbers are decimal.
+use crate::numbers::numbers;
 use machine::Outcome;
 use machine::Stop;
 
@@ -9,6 +10,11 @@ fn spaced(n: u64) {
 
 fn ended() {
     io::write_all(1, b"\n");
+}
+
+fn labelled(name: &[u8], n: u64) {
+    io::write_all(1, name);
+    spaced(n);
 }
 
 fn bit(b: bool) -> u64 {
@@ -25,46 +31,30 @@ fn words(name: &[u8], s: &[u32]) {
     ended();
 }
 
+// Only the length of more than 200.
 fn bytes(name: &[u8], s: &[u8]) {
-    io::write_all(1, name);
-    let mut i = 0;
-    while i < s.len() {
-        spaced(s[i] as u64);
-        i += 1;
-    }
-    ended();
-}
-
-// As bytes, but only the length of more than 200.
-fn bytes_or_length(name: &[u8], s: &[u8]) {
     if s.len() <= 200 {
-        bytes(name, s);
+        let mut each = [0u32; 200];
+        numbers(s, 1, &mut each);
+        words(name, &each[..s.len()]);
     } else {
-        io::write_all(1, name);
-        spaced(s.len() as u64);
+        labelled(name, s.len() as u64);
         io::write_all(1, b" bytes\n");
     }
 }
 
 fn refused(number: u8, place: usize) {
-    io::write_all(1, b"refused");
-    spaced(number as u64);
-    io::write_all(1, b" at");
-    spaced(place as u64);
+    labelled(b"refused", number as u64);
+    labelled(b" at", place as u64);
     ended();
 }
 
 fn stopped(s: Stop) {
-    io::write_all(1, b"stop");
-    spaced(s.number as u64);
-    io::write_all(1, b" at");
-    spaced(s.place as u64);
-    io::write_all(1, b" after");
-    spaced(s.steps as u64);
-    io::write_all(1, b" steps, misspeculating");
-    spaced(bit(s.mis));
-    io::write_all(1, b", masked");
-    spaced(bit(s.masked));
+    labelled(b"stop", s.number as u64);
+    labelled(b" at", s.place as u64);
+    labelled(b" after", s.steps as u64);
+    labelled(b" steps, misspeculating", bit(s.mis));
+    labelled(b", masked", bit(s.masked));
     ended();
 }
 
@@ -81,24 +71,33 @@ pub(crate) fn case(name: &[u8]) {
     ended();
 }
 
-fn run(t: &[u8], regs: &mut [u32], mem: &mut [u32], dirs: &[u8], obs: &mut [u8]) {
-    bytes_or_length(b"table", t);
-    bytes_or_length(b"directives", dirs);
-    words(b"registers before", regs);
-    words(b"memory before", mem);
-    bytes(b"observations before", obs);
-    let o = machine::run(t, regs, mem, dirs, obs);
+pub(crate) fn no_case() {
+    io::write_all(1, b"no whole case, or one too large\n");
+}
+
+fn state(when: &[u8], regs: &[u32], mem: &[u32], obs: &[u8]) {
+    io::write_all(1, b"registers ");
+    words(when, regs);
+    io::write_all(1, b"memory ");
+    words(when, mem);
+    io::write_all(1, b"observations ");
+    bytes(when, obs);
+}
+
+fn before(t: &[u8], dirs: &[u8], regs: &[u32], mem: &[u32], obs: &[u8]) {
+    bytes(b"table", t);
+    bytes(b"directives", dirs);
+    state(b"before", regs, mem, obs);
+}
+
+fn after(o: Outcome, regs: &[u32], mem: &[u32], obs: &[u8]) {
     ending(o);
-    words(b"registers after", regs);
-    words(b"memory after", mem);
-    bytes(b"observations after", obs);
+    state(b"after", regs, mem, obs);
     ended();
 }
 
-// Runs a table with room for so many observation bytes, each 255 before.
-pub(crate) fn run_in(t: &[u8], regs: &mut [u32], mem: &mut [u32], dirs: &[u8], room: usize) {
-    let mut obs = [255u8; 64];
-    if room <= 64 {
-        run(t, regs, mem, dirs, &mut obs[..room]);
-    }
+pub(crate) fn run(t: &[u8], regs: &mut [u32], mem: &mut [u32], dirs: &[u8], obs: &mut [u8]) {
+    before(t, dirs, regs, mem, obs);
+    let o = machine::run(t, regs, mem, dirs, obs);
+    after(o, regs, mem, obs);
 }

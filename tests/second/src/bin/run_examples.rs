@@ -1,8 +1,10 @@
-//! Runs the cases of the Rattle program `crates/run_examples`, in its order and
-//! with its names, and writes what that program has to write: its file `stdout`
-//! is this program's output.
+//! The cases of the Rattle program `crates/run_examples`, and what that program has
+//! to write of them: `run_examples cases` writes its file `stdin`, `run_examples`
+//! its file `stdout`.
 
 use second::{run, Outcome};
+use std::convert::TryFrom;
+use std::env;
 use std::io::{self, Write};
 
 /// The code of 01's table B.
@@ -26,40 +28,32 @@ fn line_or_length(out: &mut dyn Write, name: &str, bytes: &[u8]) -> io::Result<(
     }
 }
 
-/// Where the cases are written.
-struct Cases<'a> {
-    out: &'a mut dyn Write,
+/// A table and a list of directives, and what is lent to their run.
+struct Case<'a> {
+    name: &'a str,
+    table: &'a [u8],
+    directives: &'a [u8],
+    registers: &'a [u32],
+    memory: &'a [u32],
+    room: usize,
 }
 
-impl Cases<'_> {
-    /// The line that starts a case.
-    fn case(&mut self, name: &str) -> io::Result<()> {
-        writeln!(self.out, "{}", name)
-    }
-
-    /// Runs a table with room for so many observation bytes, each 255 before.
-    fn run_in(
-        &mut self,
-        table: &[u8],
-        registers: &[u32],
-        memory: &[u32],
-        directives: &[u8],
-        room: usize,
-    ) -> io::Result<()> {
-        let mut registers = registers.to_vec();
-        let mut memory = memory.to_vec();
-        let mut observations = vec![255; room];
-        line_or_length(self.out, "table", table)?;
-        line_or_length(self.out, "directives", directives)?;
-        line(self.out, "registers before", &registers)?;
-        line(self.out, "memory before", &memory)?;
-        line(self.out, "observations before", &observations)?;
-        match run(table, &mut registers, &mut memory, directives, &mut observations) {
-            Outcome::Refused { number, place } => {
-                writeln!(self.out, "refused {} at {}", number, place)?
-            }
+impl Case<'_> {
+    /// The run, with room for so many observation bytes, each 255 before.
+    fn show(&self, out: &mut dyn Write) -> io::Result<()> {
+        let mut registers = self.registers.to_vec();
+        let mut memory = self.memory.to_vec();
+        let mut observations = vec![255; self.room];
+        writeln!(out, "{}", self.name)?;
+        line_or_length(out, "table", self.table)?;
+        line_or_length(out, "directives", self.directives)?;
+        line(out, "registers before", &registers)?;
+        line(out, "memory before", &memory)?;
+        line(out, "observations before", &observations)?;
+        match run(self.table, &mut registers, &mut memory, self.directives, &mut observations) {
+            Outcome::Refused { number, place } => writeln!(out, "refused {} at {}", number, place)?,
             Outcome::Stopped { number, place, steps, misspeculating, masked } => writeln!(
-                self.out,
+                out,
                 "stop {} at {} after {} steps, misspeculating {}, masked {}",
                 number,
                 place,
@@ -68,10 +62,60 @@ impl Cases<'_> {
                 u8::from(masked)
             )?,
         }
-        line(self.out, "registers after", &registers)?;
-        line(self.out, "memory after", &memory)?;
-        line(self.out, "observations after", &observations)?;
-        writeln!(self.out)
+        line(out, "registers after", &registers)?;
+        line(out, "memory after", &memory)?;
+        line(out, "observations after", &observations)?;
+        writeln!(out)
+    }
+
+    /// The bytes that `crates/run_examples/src/main.rt` describes.
+    fn encode(&self, out: &mut dyn Write) -> io::Result<()> {
+        part(out, self.name.as_bytes())?;
+        part(out, self.table)?;
+        part(out, self.directives)?;
+        part(out, &in_bytes(self.registers))?;
+        part(out, &in_bytes(self.memory))?;
+        out.write_all(&[u8::try_from(self.room).expect("a byte")])
+    }
+}
+
+fn part(out: &mut dyn Write, bytes: &[u8]) -> io::Result<()> {
+    let length = u16::try_from(bytes.len()).expect("two bytes");
+    out.write_all(&length.to_le_bytes())?;
+    out.write_all(bytes)
+}
+
+fn in_bytes(words: &[u32]) -> Vec<u8> {
+    words.iter().flat_map(|word| word.to_le_bytes()).collect()
+}
+
+/// Where the cases are written, and in which form.
+struct Cases<'a> {
+    out: &'a mut dyn Write,
+    encoded: bool,
+    name: String,
+}
+
+impl Cases<'_> {
+    /// The name of the next case.
+    fn case(&mut self, name: &str) {
+        self.name = name.to_string();
+    }
+
+    fn run_in(
+        &mut self,
+        table: &[u8],
+        registers: &[u32],
+        memory: &[u32],
+        directives: &[u8],
+        room: usize,
+    ) -> io::Result<()> {
+        let case = Case { name: &self.name, table, directives, registers, memory, room };
+        if self.encoded {
+            case.encode(self.out)
+        } else {
+            case.show(self.out)
+        }
     }
 
     /// A whole table, over 2 registers and 4 words, with a plain directive.
@@ -135,56 +179,56 @@ fn head_three(starts: [u16; 3]) -> Vec<u8> {
 /// Table B of 01, case 4.
 fn of_table_b(to: &mut Cases) -> io::Result<()> {
     let code = &CODE_B;
-    to.case("table B, room 14")?;
+    to.case("table B, room 14");
     to.one(code, 0, 1, &[96, 96, 96, 96], 14)?;
-    to.case("stop 26: table B, room 13")?;
+    to.case("stop 26: table B, room 13");
     to.one(code, 0, 1, &[96, 96, 96, 96], 13)?;
-    to.case("table B, room 20 and directives left over")?;
+    to.case("table B, room 20 and directives left over");
     to.one(code, 0, 1, &[96, 96, 96, 96, 96, 97, 1], 20)?;
-    to.case("stop 20: table B, two directives")?;
+    to.case("stop 20: table B, two directives");
     to.one(code, 0, 1, &[96, 96], 14)?;
-    to.case("stop 20: table B, no directive and no room")?;
+    to.case("stop 20: table B, no directive and no room");
     to.one(code, 0, 1, &[], 0)?;
-    to.case("stop 22: table B, a branch at INIT")?;
+    to.case("stop 22: table B, a branch at INIT");
     to.one(code, 0, 1, &[97, 1], 14)?;
-    to.case("stop 22: table B, a stray access in range")?;
+    to.case("stop 22: table B, a stray access in range");
     to.one(code, 0, 1, &[96, 98, 0, 1, 0], 14)?;
-    to.case("stop 26: table B, no room at all")?;
+    to.case("stop 26: table B, no room at all");
     to.one(code, 0, 1, &[96], 0)?;
-    to.case("stop 22: table B, a return and no room")?;
+    to.case("stop 22: table B, a return and no room");
     to.one(code, 0, 1, &[99, 36, 0], 0)?;
     // only a RETURN: 21 before 20 and 22
-    to.case("stop 21: no step")?;
+    to.case("stop 21: no step");
     to.one(&[37], 0, 1, &[], 4)?;
-    to.case("stop 21: no step, a directive left over")?;
+    to.case("stop 21: no step, a directive left over");
     to.one(&[37], 0, 1, &[97, 0], 4)
 }
 
 /// On the right path.
 fn of_indices(to: &mut Cases) -> io::Result<()> {
     // LOAD 0 := array 0 at register 1
-    to.case("LOAD of index 3 in an array of 4")?;
+    to.case("LOAD of index 3 in an array of 4");
     to.one(&[19, 0, 0, 1, 37], 5, 3, &[96], 8)?;
-    to.case("stop 24: LOAD of index 4 in an array of 4")?;
+    to.case("stop 24: LOAD of index 4 in an array of 4");
     to.one(&[19, 0, 0, 1, 37], 5, 4, &[96], 8)?;
     // 24 before 22 and 26
-    to.case("stop 24: a stray access on the right path, no room")?;
+    to.case("stop 24: a stray access on the right path, no room");
     to.one(&[19, 0, 0, 1, 37], 5, 4, &[98, 0, 2, 0], 0)?;
     // STORE array 0 at register 1 := 0
-    to.case("STORE at index 3 in an array of 4")?;
+    to.case("STORE at index 3 in an array of 4");
     to.one(&[20, 0, 1, 0, 37], 5, 3, &[96], 8)?;
-    to.case("stop 24: STORE at index 4 in an array of 4")?;
+    to.case("stop 24: STORE at index 4 in an array of 4");
     to.one(&[20, 0, 1, 0, 37], 5, 4, &[96], 8)?;
     // arrays of 4 and 3 words
-    to.case("STORE into array 1, array 0 unchanged")?;
+    to.case("STORE into array 1, array 0 unchanged");
     to.two(&[20, 1, 1, 2, 37], [0, 0, 77], &[96], 8)?;
-    to.case("STORE at the last word of array 1")?;
+    to.case("STORE at the last word of array 1");
     to.two(&[20, 1, 1, 2, 37], [0, 2, 77], &[96], 8)?;
-    to.case("stop 24: STORE at index 3 in array 1 of 3")?;
+    to.case("stop 24: STORE at index 3 in array 1 of 3");
     to.two(&[20, 1, 1, 2, 37], [0, 3, 77], &[96], 8)?;
-    to.case("STORE into array 0, array 1 unchanged")?;
+    to.case("STORE into array 0, array 1 unchanged");
     to.two(&[20, 0, 1, 2, 37], [0, 3, 77], &[96], 8)?;
-    to.case("LOAD from array 1")?;
+    to.case("LOAD from array 1");
     to.two(&[19, 0, 1, 1, 37], [0, 1, 77], &[96], 8)
 }
 
@@ -192,22 +236,22 @@ fn of_indices(to: &mut Cases) -> io::Result<()> {
 /// the directive goes in.
 fn of_stray_loads(to: &mut Cases) -> io::Result<()> {
     let code = &[32, 0, 32, 0, 19, 1, 0, 1, 33, 35, 0, 34, 37];
-    to.case("stray LOAD of index 4")?;
+    to.case("stray LOAD of index 4");
     to.one(code, 0, 4, &[97, 1, 98, 0, 2, 0, 96], 12)?;
-    to.case("misspeculating, LOAD of index 3")?;
+    to.case("misspeculating, LOAD of index 3");
     to.one(code, 0, 3, &[97, 1, 96, 96], 12)?;
-    to.case("stop 22: a stray access of index 3")?;
+    to.case("stop 22: a stray access of index 3");
     to.one(code, 0, 3, &[97, 1, 98, 0, 2, 0], 12)?;
-    to.case("stop 22: a plain directive for index 4")?;
+    to.case("stop 22: a plain directive for index 4");
     to.one(code, 0, 4, &[97, 1, 96], 12)?;
-    to.case("stop 25: no word 4 in array 0")?;
+    to.case("stop 25: no word 4 in array 0");
     to.one(code, 0, 4, &[97, 1, 98, 0, 4, 0], 12)?;
-    to.case("stop 25: no array 1")?;
+    to.case("stop 25: no array 1");
     to.one(code, 0, 4, &[97, 1, 98, 1, 0, 0], 12)?;
     // 25 before 26
-    to.case("stop 25: no word 256 in array 0, no room")?;
+    to.case("stop 25: no word 256 in array 0, no room");
     to.one(code, 0, 4, &[97, 1, 98, 0, 0, 1], 2)?;
-    to.case("stop 26: room for 5 of 6 bytes")?;
+    to.case("stop 26: room for 5 of 6 bytes");
     to.one(code, 0, 4, &[97, 1, 98, 0, 2, 0], 7)
 }
 
@@ -215,43 +259,43 @@ fn of_stray_loads(to: &mut Cases) -> io::Result<()> {
 /// words.
 fn of_stray_stores(to: &mut Cases) -> io::Result<()> {
     let code = &[32, 0, 35, 0, 20, 0, 1, 2, 33, 38, 0, 34, 37];
-    to.case("stray STORE into array 1")?;
+    to.case("stray STORE into array 1");
     to.two(code, [0, 4294967295, 77], &[97, 1, 98, 1, 2, 0, 96], 12)?;
-    to.case("stray STORE into array 0")?;
+    to.case("stray STORE into array 0");
     to.two(code, [0, 4, 77], &[97, 1, 98, 0, 0, 0, 96], 12)?;
-    to.case("stop 25: no word 3 in array 1")?;
+    to.case("stop 25: no word 3 in array 1");
     to.two(code, [0, 4, 77], &[97, 1, 98, 1, 3, 0, 96], 12)
 }
 
 /// IF 0, with PROTECT 1 := 0 in its first block and UPDATE (0, 0) in its second.
 fn of_branches(to: &mut Cases) -> io::Result<()> {
     let code = &[32, 0, 31, 0, 23, 1, 0, 33, 37, 0, 22, 0, 0, 34, 37];
-    to.case("IF on 2, the right way")?;
+    to.case("IF on 2, the right way");
     to.one(code, 2, 5, &[97, 1, 96, 96], 6)?;
-    to.case("IF on 0, the right way")?;
+    to.case("IF on 0, the right way");
     to.one(code, 0, 5, &[97, 0, 96, 96], 6)?;
-    to.case("IF on 0, the wrong way")?;
+    to.case("IF on 0, the wrong way");
     to.one(code, 0, 5, &[97, 1, 96, 96], 6)?;
-    to.case("IF on 2, the wrong way")?;
+    to.case("IF on 2, the wrong way");
     to.one(code, 2, 5, &[97, 0, 96, 96], 6)?;
-    to.case("stop 22: a plain directive at IF")?;
+    to.case("stop 22: a plain directive at IF");
     to.one(code, 2, 5, &[96], 6)?;
-    to.case("stop 26: room 1 for a branch")?;
+    to.case("stop 26: room 1 for a branch");
     to.one(code, 0, 5, &[97, 1], 1)?;
-    to.case("stop 22: a branch at ELSE")?;
+    to.case("stop 22: a branch at ELSE");
     to.one(code, 2, 5, &[97, 1, 96, 97, 1], 6)
 }
 
 /// IF 0, with INIT in its first block: 20 before 23 before 22 and 26.
 fn of_inits(to: &mut Cases) -> io::Result<()> {
     let code = &[32, 0, 29, 0, 21, 33, 32, 0, 34, 37];
-    to.case("stop 23: INIT while misspeculating")?;
+    to.case("stop 23: INIT while misspeculating");
     to.one(code, 0, 0, &[97, 1, 96], 6)?;
-    to.case("stop 23: INIT while misspeculating, a branch and no room")?;
+    to.case("stop 23: INIT while misspeculating, a branch and no room");
     to.one(code, 0, 0, &[97, 1, 97, 1], 2)?;
-    to.case("stop 20: before an INIT while misspeculating")?;
+    to.case("stop 20: before an INIT while misspeculating");
     to.one(code, 0, 0, &[97, 1], 6)?;
-    to.case("INIT on the right path")?;
+    to.case("INIT on the right path");
     to.one(code, 1, 0, &[97, 1, 96, 96], 6)
 }
 
@@ -259,48 +303,48 @@ fn of_inits(to: &mut Cases) -> io::Result<()> {
 fn of_the_flag(to: &mut Cases) -> io::Result<()> {
     // IF 0, in its first block UPDATE (0, 1) and PROTECT 1 := 1
     let code = &[32, 0, 34, 0, 22, 0, 1, 23, 1, 1, 33, 37, 0, 34, 37];
-    to.case("UPDATE and PROTECT, the wrong way")?;
+    to.case("UPDATE and PROTECT, the wrong way");
     to.one(code, 0, 8, &[97, 1, 96, 96, 96], 6)?;
-    to.case("UPDATE and PROTECT, the right way")?;
+    to.case("UPDATE and PROTECT, the right way");
     to.one(code, 3, 8, &[97, 1, 96, 96, 96], 6)?;
     // UPDATE (0, 1), UPDATE (0, 0), PROTECT 1 := 0
     let twice = &[22, 0, 1, 22, 0, 0, 23, 1, 0, 37];
-    to.case("UPDATE leaves a masked flag masked")?;
+    to.case("UPDATE leaves a masked flag masked");
     to.one(twice, 0, 8, &[96, 96, 96], 4)?;
-    to.case("UPDATE (0, 0) masks")?;
+    to.case("UPDATE (0, 0) masks");
     to.one(twice, 3, 8, &[96, 96, 96], 4)?;
     // UPDATE (0, 1), PROTECT 1 := 0, INIT, PROTECT 0 := 0
     let init = &[22, 0, 1, 23, 1, 0, 21, 23, 0, 0, 37];
-    to.case("INIT clears the flag")?;
+    to.case("INIT clears the flag");
     to.one(init, 0, 8, &[96, 96, 96, 96], 4)
 }
 
 /// WHILE 1, with OP 1 := 1 - 0 as its body.
 fn of_loops(to: &mut Cases) -> io::Result<()> {
     let code = &[35, 1, 40, 0, 0, 0, 0, 0, 0, 0, 0, 17, 1, 1, 1, 0, 36, 24, 0, 37];
-    to.case("a loop run twice and left")?;
+    to.case("a loop run twice and left");
     let list = &[97, 1, 96, 96, 97, 1, 96, 96, 97, 0];
     to.one(code, 1, 2, list, 12)?;
-    to.case("a loop left too late")?;
+    to.case("a loop left too late");
     to.one(code, 1, 1, list, 12)?;
-    to.case("a loop left too early")?;
+    to.case("a loop left too early");
     to.one(code, 1, 2, &[97, 1, 96, 96, 97, 0], 12)?;
-    to.case("a loop not entered")?;
+    to.case("a loop not entered");
     to.one(code, 1, 0, &[97, 0], 12)?;
-    to.case("stop 22: a return at ENDWHILE")?;
+    to.case("stop 22: a return at ENDWHILE");
     to.one(code, 1, 2, &[97, 1, 96, 99, 24, 0], 12)
 }
 
 /// Returns, right and wrong.
 fn of_returns(to: &mut Cases) -> io::Result<()> {
-    to.case("CALL and its right return")?;
+    to.case("CALL and its right return");
     to.calls(&[96, 96, 99, 71, 0], 4)?;
     let right = &[96, 96, 99, 71, 0, 96, 96, 96, 99, 64, 0, 96, 99, 74, 0, 96];
-    to.case("CALLs and their right returns, to the end")?;
+    to.case("CALLs and their right returns, to the end");
     to.calls(right, 12)?;
     // from the CALL in the entry to the place after the marked one, then with an
     // empty stack to 74
-    to.case("wrong return into another caller, marked")?;
+    to.case("wrong return into another caller, marked");
     to.calls(&[96, 96, 99, 64, 0, 96, 99, 74, 0, 96], 12)?;
     // from the CALL in function 1 to the place after the one in the entry, then
     // on from there
@@ -308,32 +352,32 @@ fn of_returns(to: &mut Cases) -> io::Result<()> {
         &[96, 96, 99, 71, 0, 96, 96, 96, 99, 71, 0][..],
         &[96, 96, 96, 99, 64, 0, 96, 99, 74, 0, 96],
     ];
-    to.case("wrong return into another caller, unmarked")?;
+    to.case("wrong return into another caller, unmarked");
     to.calls(&wrong.concat(), 16)?;
-    to.case("right returns to a marked CALL")?;
+    to.case("right returns to a marked CALL");
     let right = &[96, 96, 99, 59, 0, 96, 99, 62, 0, 99, 66, 0, 96];
     to.calls_twice(right, 8)?;
     // 59 is on top, 62 follows another CALL: the stack is emptied, so that 66 is
     // no longer on it
-    to.case("wrong return empties the stack")?;
+    to.case("wrong return empties the stack");
     to.calls_twice(&[96, 96, 99, 62, 0, 99, 66, 0, 96], 8)
 }
 
 /// Stops at CALL and RETURN.
 fn of_calls(to: &mut Cases) -> io::Result<()> {
-    to.case("stop 25: after a CALL of another function")?;
+    to.case("stop 25: after a CALL of another function");
     to.calls(&[96, 96, 99, 74, 0], 4)?;
-    to.case("stop 25: after no CALL")?;
+    to.case("stop 25: after no CALL");
     to.calls(&[96, 96, 99, 55, 0], 4)?;
-    to.case("stop 25: a place beyond the table, no room")?;
+    to.case("stop 25: a place beyond the table, no room");
     to.calls(&[96, 96, 99, 255, 255], 2)?;
-    to.case("stop 22: a plain directive at RETURN")?;
+    to.case("stop 22: a plain directive at RETURN");
     to.calls(&[96, 96, 96], 4)?;
-    to.case("stop 22: a return at CALL")?;
+    to.case("stop 22: a return at CALL");
     to.calls(&[99, 71, 0], 4)?;
-    to.case("stop 20: at RETURN")?;
+    to.case("stop 20: at RETURN");
     to.calls(&[96, 96], 4)?;
-    to.case("stop 26: at RETURN")?;
+    to.case("stop 26: at RETURN");
     to.calls(&[96, 96, 99, 71, 0], 2)
 }
 
@@ -351,57 +395,57 @@ fn ops(to: &mut Cases, left: u32, right: u32) -> io::Result<()> {
 }
 
 fn of_ops(to: &mut Cases) -> io::Result<()> {
-    to.case("ops on 12 and 10")?;
+    to.case("ops on 12 and 10");
     ops(to, 12, 10)?;
-    to.case("ops on 10 and 12")?;
+    to.case("ops on 10 and 12");
     ops(to, 10, 12)?;
-    to.case("ops on 4294967295 and 2")?;
+    to.case("ops on 4294967295 and 2");
     ops(to, 4294967295, 2)?;
-    to.case("ops on 0 and 0")?;
+    to.case("ops on 0 and 0");
     ops(to, 0, 0)?;
-    to.case("ops on 0 and 9")?;
+    to.case("ops on 0 and 9");
     ops(to, 0, 9)?;
-    to.case("ops on 65536 and 65537")?;
+    to.case("ops on 65536 and 65537");
     ops(to, 65536, 65537)
 }
 
 /// The reading, 2 to 4.
 fn of_tables(to: &mut Cases) -> io::Result<()> {
-    to.case("refusal 2: the empty table")?;
+    to.case("refusal 2: the empty table");
     to.whole(&[])?;
     // table A without its RETURN
-    to.case("refusal 2: a record is due")?;
+    to.case("refusal 2: a record is due");
     to.one(&[19, 0, 0, 1, 19, 1, 0, 0], 0, 1, &[96], 4)?;
     // a CONST of which the last byte is missing
-    to.case("refusal 2: cut inside a record")?;
+    to.case("refusal 2: cut inside a record");
     to.one(&[16, 0, 7, 0, 0], 0, 1, &[96], 4)?;
     // kind 26 is none of the listed kinds
-    to.case("refusal 3: unknown kind")?;
+    to.case("refusal 3: unknown kind");
     to.one(&[38, 37], 0, 1, &[96], 4)?;
     // an ENDIF where no block is open
-    to.case("refusal 3: kind not allowed here")?;
+    to.case("refusal 3: kind not allowed here");
     to.one(&[34, 37], 0, 1, &[96], 4)?;
     // CONST into register 5, of two
-    to.case("refusal 4: no such register")?;
+    to.case("refusal 4: no such register");
     to.one(&[16, 5, 1, 0, 0, 0, 37], 0, 1, &[96], 4)
 }
 
 /// The reading, 5 and 7 to 9.
 fn of_places(to: &mut Cases) -> io::Result<()> {
     // the signature says that the function starts at 25
-    to.case("refusal 5: start place")?;
+    to.case("refusal 5: start place");
     signed(to, 25, 0)?;
     // the IF at 24 names 29, its ELSE is at 28
-    to.case("refusal 5: ELSE place")?;
+    to.case("refusal 5: ELSE place");
     to.one(&[32, 0, 29, 0, 33, 31, 0, 34, 37], 0, 1, &[97, 1], 4)?;
     // the only function calls itself
-    to.case("refusal 7: CALL of itself")?;
+    to.case("refusal 7: CALL of itself");
     to.one(&[24, 0, 0, 37], 0, 1, &[96], 4)?;
     // the entry's in status is updated
-    to.case("refusal 8: entry's in status")?;
+    to.case("refusal 8: entry's in status");
     signed(to, 24, 1)?;
     // a byte after the RETURN
-    to.case("refusal 9: bytes after the last RETURN")?;
+    to.case("refusal 9: bytes after the last RETURN");
     to.one(&[21, 37, 0], 0, 1, &[96], 4)
 }
 
@@ -418,36 +462,36 @@ fn lent(to: &mut Cases, registers: &[u32], memory: &[u32], list: &[u8]) -> io::R
 }
 
 fn of_lengths(to: &mut Cases) -> io::Result<()> {
-    to.case("refusal 15: 3 registers for 2")?;
+    to.case("refusal 15: 3 registers for 2");
     lent(to, &[0, 1, 2], &[3, 2, 9, 7], &[96, 96, 96, 96])?;
-    to.case("refusal 15: 1 register for 2")?;
+    to.case("refusal 15: 1 register for 2");
     lent(to, &[0], &[3, 2, 9, 7], &[96, 96, 96, 96])?;
-    to.case("refusal 15: 5 words for 4")?;
+    to.case("refusal 15: 5 words for 4");
     lent(to, &[0, 1], &[3, 2, 9, 7, 5], &[96, 96, 96, 96])?;
-    to.case("refusal 15: 3 words for 4")?;
+    to.case("refusal 15: 3 words for 4");
     lent(to, &[0, 1], &[3, 2, 9], &[96, 96, 96, 96])?;
     // 15 before 16
-    to.case("refusal 15: 1 register for 2 and a bad list")?;
+    to.case("refusal 15: 1 register for 2 and a bad list");
     lent(to, &[0], &[3, 2, 9, 7], &[100])?;
     // 2 before 15
-    to.case("refusal 2: the empty table, no registers and a bad list")?;
+    to.case("refusal 2: the empty table, no registers and a bad list");
     to.run_in(&[], &[], &[], &[100], 4)
 }
 
 /// The directive list, 16.
 fn of_lists(to: &mut Cases) -> io::Result<()> {
-    to.case("refusal 16: unknown kind")?;
+    to.case("refusal 16: unknown kind");
     to.one(&[21, 37], 0, 1, &[96, 100], 4)?;
-    to.case("refusal 16: a stray access cut short")?;
+    to.case("refusal 16: a stray access cut short");
     to.one(&[21, 37], 0, 1, &[96, 98, 0, 1], 4)?;
-    to.case("refusal 16: a return cut short")?;
+    to.case("refusal 16: a return cut short");
     to.one(&[21, 37], 0, 1, &[96, 99, 24], 4)?;
-    to.case("refusal 16: a branch cut short")?;
+    to.case("refusal 16: a branch cut short");
     to.one(&[21, 37], 0, 1, &[96, 97], 4)?;
-    to.case("refusal 16: branch byte over 1")?;
+    to.case("refusal 16: branch byte over 1");
     to.one(&[21, 37], 0, 1, &[96, 96, 97, 2], 4)?;
     // the run would end before it came to the bad directive
-    to.case("refusal 16: after the end of the run")?;
+    to.case("refusal 16: after the end of the run");
     to.one(&[21, 37], 0, 1, &[96, 96, 95], 4)
 }
 
@@ -501,31 +545,36 @@ fn chain(to: &mut Cases, length: usize) -> io::Result<()> {
 
 /// The largest tables, lists, nestings and stacks, and the ones just over them.
 fn sizes(to: &mut Cases) -> io::Result<()> {
-    to.case("length 32,768")?;
+    to.case("length 32,768");
     filled(to, &[21, 37])?;
-    to.case("refusal 1: length 32,769")?;
+    to.case("refusal 1: length 32,769");
     filled(to, &[21, 21, 37])?;
     // 1 before 3
-    to.case("refusal 1: length 32,769 and an unknown kind")?;
+    to.case("refusal 1: length 32,769 and an unknown kind");
     filled(to, &[21, 21, 38])?;
-    to.case("list of 16,384 bytes")?;
+    to.case("list of 16,384 bytes");
     listed(to, 16384)?;
-    to.case("refusal 16: list of 16,385 bytes")?;
+    to.case("refusal 16: list of 16,385 bytes");
     listed(to, 16385)?;
-    to.case("nesting 16")?;
+    to.case("nesting 16");
     nested(to, 16)?;
-    to.case("refusal 6: nesting 17")?;
+    to.case("refusal 6: nesting 17");
     nested(to, 17)?;
-    to.case("stop 20: 31 places on the stack")?;
+    to.case("stop 20: 31 places on the stack");
     chain(to, 31)?;
-    to.case("31 CALLs and their returns")?;
+    to.case("31 CALLs and their returns");
     chain(to, 124)
 }
 
 fn main() -> io::Result<()> {
     let stdout = io::stdout();
     let mut out = io::BufWriter::new(stdout.lock());
-    let to = &mut Cases { out: &mut out };
+    let encoded = match env::args().nth(1).as_deref() {
+        None => false,
+        Some("cases") => true,
+        Some(_) => panic!("the only argument is: cases"),
+    };
+    let to = &mut Cases { out: &mut out, encoded, name: String::new() };
     of_table_b(to)?;
     of_indices(to)?;
     of_stray_loads(to)?;

@@ -1,59 +1,51 @@
-use Prim.Native.Nat.{_≤_, _-_}
 use native.Mathlib.Omega.{arith}
-use lib.ListN.{length}
+use mathlib.Core.Path.{sym}
+use lib.Seq.{length-take-le}
 use borrow.Author.Needs.{needs}
 use Rattle.run_examples.proofs.show.bytes.Statement.{statement}
 use Rattle.run_examples.proofs.show.bytes.Tie as tie
 
-abbrev Inv-loop : tie.InvT-loop
-Inv-loop name s i₀ i = i ≤ length s
+slice-aggregate-numbers : tie.Need-slice-aggregate-numbers
+slice-aggregate-numbers c = search needs
 
-abbrev μ-loop : tie.MeasureT-loop
-μ-loop name s i₀ i = length s - i
+numbers-requires : tie.Need-numbers-requires
+numbers-requires c κs = search needs
 
-write-all-requires : tie.Need-write-all-requires Inv-loop μ-loop
+array-share-prefix-each : tie.Need-array-share-prefix-each
+array-share-prefix-each c = search needs
+
+slice-aggregate-words : tie.Need-slice-aggregate-words
+slice-aggregate-words c = sym (length-take-le _ _ (omega (arith, c .before .before .numbers .kept .1 .1 .0)))
+
+words-requires : tie.Need-words-requires
+words-requires c κs = search needs
+
+labelled-requires : tie.Need-labelled-requires
+labelled-requires c κs = search needs
+
+slice-aggregate-write-all : tie.Need-slice-aggregate-write-all
+slice-aggregate-write-all c = search needs
+
+write-all-requires : tie.Need-write-all-requires
 write-all-requires c κs = search needs
 
-loop-holds : tie.Need-loop-holds Inv-loop μ-loop
-loop-holds c = search needs
-
-shared-slice-read-spaced : tie.Need-shared-slice-read-spaced Inv-loop μ-loop
-shared-slice-read-spaced c = search needs
-
-cast-spaced : tie.Need-cast-spaced Inv-loop μ-loop
-cast-spaced c = omega (arith, c .shared-slice-known3 .given (c .before .before .loop .i))
-
-spaced-requires : tie.Need-spaced-requires Inv-loop μ-loop
-spaced-requires c κs = search needs
-
-add-i : tie.Need-add-i Inv-loop μ-loop
-add-i c = search needs
-
-loop-less : tie.Need-loop-less Inv-loop μ-loop
-loop-less c = search needs
-
-loop-again : tie.Need-loop-again Inv-loop μ-loop
-loop-again c = search needs
-
-ended-requires : tie.Need-ended-requires Inv-loop μ-loop
-ended-requires c κs = search needs
-
-returns : tie.Need-returns Inv-loop μ-loop
+returns : tie.Need-returns
 returns c = search needs
+
+returns-2 : tie.Need-returns-2
+returns-2 c = search needs
 
 pub bytes-spec : {M : Type 1} → statement M
 bytes-spec =
     tie.close
     (tie.spec
-    Inv-loop
-    μ-loop
+    slice-aggregate-numbers
+    numbers-requires
+    array-share-prefix-each
+    slice-aggregate-words
+    words-requires
+    labelled-requires
+    slice-aggregate-write-all
     write-all-requires
-    loop-holds
-    shared-slice-read-spaced
-    cast-spaced
-    spaced-requires
-    add-i
-    loop-less
-    loop-again
-    ended-requires
-    returns)
+    returns
+    returns-2)
