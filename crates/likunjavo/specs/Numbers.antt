@@ -1,5 +1,6 @@
 -- The answers as numbers, for programs in other languages: document 01's number and values for each case.
 use Prim.Native.Nat.{ℕ}
+use mathlib.Core.Path.{_≡_, sym, ap, _∙_}
 use mathlib.Core.List.{List, [], _∷_}
 use Rattle.model.specs.Tests.{pick}
 use Rattle.typing.specs.declared.Verdict.{Verdict}
@@ -32,3 +33,22 @@ pub data Left : Type 0 where
 
 abbrev pub leftOf : Ran → Left
 leftOf (ran o regs mem obs) = left (outcomeNumbers o) regs mem obs
+
+-- two permitted answers are equal. (Of likunjavo_check and likunjavo_shown the contract is an equation of the one lent array.)
+abbrev answerIn : Left → List ℕ
+answerIn (left a regs mem obs) = a
+
+abbrev regsIn : Left → List ℕ
+regsIn (left a regs mem obs) = regs
+
+abbrev memIn : Left → List ℕ
+memIn (left a regs mem obs) = mem
+
+abbrev obsIn : Left → List ℕ
+obsIn (left a regs mem obs) = obs
+
+pub one-left : (value : Left) (a regs mem obs b regs′ mem′ obs′ : List ℕ) → left a regs mem obs ≡ value → left b regs′ mem′ obs′ ≡ value
+    → (a ≡ b) × (regs ≡ regs′) × (mem ≡ mem′) × (obs ≡ obs′)
+one-left value a regs mem obs b regs′ mem′ obs′ x y =
+    let e = x ∙ sym y in
+    (ap answerIn e, ap regsIn e, ap memIn e, ap obsIn e)

@@ -33,7 +33,7 @@ use Rattle.machine.specs.declared.Told.{Told}
 use Rattle.machine.specs.declared.Told.the-variants.{Got, Bad}
 use Rattle.machine.specs.declared.Outcome.the-variants.{Stopped}
 use Rattle.machine.specs.Directives.{directiveAt, onTold, directivesFrom, bytesOf, allBytes}
-use Rattle.machine.specs.States.{words, stackOf, ctlOf, dataOf}
+use Rattle.machine.specs.States.{words, length-stack, ctlOf, dataOf}
 use Rattle.machine.specs.Runs.{Ran, ran, total, ranFrom}
 use Rattle.machine.specs.Turns.{Lent, Ready, ActMoves, TurnMoves, TurnHalts}
 
@@ -105,10 +105,6 @@ run-went : (t : Table) (d : Directive) (ds : List Directive) (room : ℕ) (c c�
 run-went t d ds room c c′ x x′ o e s l = run-step t d ds room c x e ∙ rw (s, le-leb (size o) room l)
 
 -- ---- where a run stands
-pub length-stack : (d : ℕ) (xs : List ℕ) → length (stackOf d xs) ≡ d
-length-stack zero xs = refl
-length-stack (suc d) xs = ap suc (length-stack d xs)
-
 module _ (t : List ℕ) (z : Sizes) (e : readAt t ≡ Reads z) where
   abbrev T : Table
   T = tableOf t

@@ -27,11 +27,11 @@ use Rattle.machine.specs.declared.Acted.{Acted}
 use Rattle.machine.specs.declared.Turn.{Turn}
 use Rattle.machine.specs.declared.Told.the-variants.{Got, Bad}
 use Rattle.machine.specs.Directives.{directiveAt, directivesFrom, bytesOf}
-use Rattle.machine.specs.States.{words, stackOf, ctlOf, ctlNext, arrayNext, arrayed, RoomFor, dataOf, applied, viewPlan, stacked, below}
+use Rattle.machine.specs.States.{words, length-stack, ctlOf, ctlNext, arrayNext, arrayed, RoomFor, dataOf, applied, viewPlan, stacked, below}
 use Rattle.machine.specs.Runs.{total, ranFrom}
 use Rattle.machine.specs.Turns.{Lent, lent, actedOf, Ready, Acts, Turns}
 use Rattle.machine.proofs.Moving.{Moved, Grows, only-calls}
-use Rattle.machine.proofs.Going.{directives-end, directives-bad, directives-on, length-stack, run-ended, run-used, run-step, Going, StandsAt, own-sizes}
+use Rattle.machine.proofs.Going.{directives-end, directives-bad, directives-on, run-ended, run-used, run-step, Going, StandsAt, own-sizes}
 use Rattle.machine.specs.Everywhere.{start-stands}
 
 length-below : (ps : List ℕ) → length (below ps) ≤ length ps

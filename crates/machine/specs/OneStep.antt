@@ -1,6 +1,6 @@
 -- The contract of the step fixes every field of the state afterwards, every lent word and what it answers: whatever two steps meet
 -- it from the same state, they leave the same.
-use Prim.Native.Nat.{ℕ, zero, suc, _+_, _-_, _≤_}
+use Prim.Native.Nat.{ℕ, _+_, _-_, _≤_}
 use native.Mathlib.Omega.{arith}
 use native.Mathlib.Decide.{ℕ-discrete}
 use mathlib.Core.Path.{_≡_, refl, sym, ap, _∙_}
@@ -17,12 +17,8 @@ use Rattle.format.specs.Layout.{tableWith}
 use Rattle.machine.specs.declared.State.{State}
 use Rattle.machine.specs.declared.Acted.{Acted}
 use Rattle.machine.specs.Directives.{bytesOf}
-use Rattle.machine.specs.States.{stackOf, ctlOf, dataOf, arrayed}
+use Rattle.machine.specs.States.{length-stack, ctlOf, dataOf, arrayed}
 use Rattle.machine.specs.Turns.{Lent, lent, ActMoves, ActHalts, Acts}
-
-depth-of : (d : ℕ) (xs : List ℕ) → length (stackOf d xs) ≡ d
-depth-of zero xs = refl
-depth-of (suc d) xs = ap suc (depth-of d xs)
 
 -- the parts of a step, and of an end
 abbrev control : Ctl → Stepped → Ctl
@@ -55,7 +51,7 @@ module _ (z : Sizes) (t : List ℕ) (s : State) (dir : Directive) (seen : ℕ) (
       let dat : dataOf (r .state) (b .regs) (b .mem) ≡ dataOf (u .state) (d .regs) (d .mem) = ap (data′ (dataOf s (a .regs) (a .mem))) w in
       let saw : m .saw ≡ n .saw = ap seen′ w in
       let stack : ctlOf (r .state) .stack ≡ ctlOf (u .state) .stack = ap (λ (c : Ctl). c .stack) ctl in
-      let depth : r .state .depth ≡ u .state .depth = sym (depth-of (r .state .depth) (r .state .stack)) ∙ ap length stack ∙ depth-of (u .state .depth) (u .state .stack) in
+      let depth : r .state .depth ≡ u .state .depth = sym (length-stack (r .state .depth) (r .state .stack)) ∙ ap length stack ∙ length-stack (u .state .depth) (u .state .stack) in
       let row : r .state .stack ≡ u .state .stack = m .array ∙ ap (arrayed s) stack ∙ sym (n .array) in
       let end : r .seen ≡ u .seen = m .seen′ ∙ ap (λ (o : Observation). seen + size o) saw ∙ sym (n .seen′) in
       let obs : b .obs ≡ d .obs = m .wrote ∙ ap (λ (o : Observation). sets (a .obs) seen (bytesOf o)) saw ∙ sym (n .wrote) in

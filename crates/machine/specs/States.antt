@@ -1,6 +1,6 @@
 -- What the machine's state and its plan for one step stand for.
 use Prim.Native.Nat.{ℕ, zero, suc, _<_, _≤_}
-use mathlib.Core.Path.{_≡_}
+use mathlib.Core.Path.{_≡_, refl, ap}
 use mathlib.Core.Bool.{Bool, true, false, not, _||_}
 use mathlib.Core.Option.{Option, none, some}
 use mathlib.Core.List.{List, [], _∷_}
@@ -29,6 +29,10 @@ use Rattle.machine.specs.declared.Site.the-variants.{Marked, Nowhere}
 abbrev pub stackOf : ℕ → List ℕ → List ℕ
 stackOf zero xs = []
 stackOf (suc d) xs = getD xs d 0 ∷ stackOf d xs
+
+pub length-stack : (d : ℕ) (xs : List ℕ) → length (stackOf d xs) ≡ d
+length-stack zero xs = refl
+length-stack (suc d) xs = ap suc (length-stack d xs)
 
 abbrev pub ctlOf : State → Ctl
 ctlOf s = record { place = s .place; stack = stackOf (s .depth) (s .stack); mis = s .mis }
