@@ -13,8 +13,8 @@ use std::panic::{catch_unwind, AssertUnwindSafe};
 use std::process::exit;
 use std::time::{Duration, Instant};
 
-/// The rounds of `quick`: half a minute on one core of 2026.
-const QUICK_ROUNDS: u64 = 6_000;
+/// The rounds of `quick`: two minutes on one core of 2026.
+const QUICK_ROUNDS: u64 = 24_000;
 const BETWEEN_LINES: Duration = Duration::from_secs(5);
 const SAVED: &str = concat!(env!("CARGO_MANIFEST_DIR"), "/../../target/failed-case.txt");
 
