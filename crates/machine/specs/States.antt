@@ -74,7 +74,7 @@ arrayNext s (Push q) = set (s .stack) (s .depth) q
 arrayNext s Pop = s .stack
 arrayNext s Clear = s .stack
 
--- the same, from the stack after the step: "place" is the top where the stack has grown
+-- the same, told by the stack after the step alone: where it has grown, its top is what was pushed
 abbrev pub arrayed : State → List ℕ → List ℕ
 arrayed s ps = pick (ltb (s .depth) (length ps)) (set (s .stack) (s .depth) (getD ps 0 0)) (s .stack)
 
