@@ -13,6 +13,7 @@ use native.Mathlib.Nat.{not-suc-le-zero}
 use Rattle.model.specs.Tests.{pick, put, same, test}
 use Rattle.model.specs.Memory.{set-alike, disjoint}
 use Rattle.model.specs.Levels.{Env, Covers, Within}
+use Rattle.model.specs.Records.{SimpleReaches}
 use Rattle.model.specs.Table.{Table}
 use Rattle.model.specs.declared.Status.{Status}
 use Rattle.model.specs.declared.Status.the-variants.{Unknown, Updated, Outdated}
@@ -23,10 +24,10 @@ use Rattle.model.specs.declared.Directive.the-variants.{Plain, Branch, S
 use Rattle.model.specs.declared.Observation.{Observation}
 use Rattle.model.specs.declared.Observation.the-variants.{Nothing, Way, Address}
 use Rattle.model.specs.declared.Simple.{Simple}
-use Rattle.model.specs.declared.Simple.the-variants.{Const, Op, Select, Load, Store, Init, Update, Protect}
+use Rattle.model.specs.declared.Simple.the-variants.{Const, Op, Select, Load, Store, Init, Update, Protect, LoadFixed, StoreFixed}
 use Rattle.model.specs.declared.Record.{Record}
 use Rattle.model.specs.declared.Record.the-variants.{Do, Call, If, Else, Endif, While, Endwhile, Return}
-use Rattle.model.specs.Rules.{kill, settle, written, beside, Needs, after}
+use Rattle.model.specs.Rules.{kill, settle, written, raised, beside, Needs, after}
 use Rattle.model.specs.Monotone.{settle-ind}
 use Rattle.model.specs.Machine.{Data, wordsOf, address, Work, halt, did, reg, wordAt, holds, wrote, stored, plain, byAccess, inRange, strayed, access, work}
 
@@ -132,6 +133,25 @@ module _ (t : Table) where
       → Works (written E d l) mis (plain dir (did (wrote x d v) Nothing)) (plain dir (did (wrote y d w) Nothing))
   write-works E mis x y h dir d l v w e = plain-works (written E d l) mis dir _ _ (refl, wrote-alike E mis x y h d l v w e)
 
+  -- word j of array b becomes register s, array a having been named: the other arrays' levels do not fall, and the word is seen
+  -- only if the register is
+  stored-alike : (E : Env) (mis : Bool) (x y : Data) → Alike t E mis x y → (others : ℕ → ℕ) (a s b j : ℕ) → ((c : ℕ) → E .arrays c ≤ others c) → j < wordsOf t b
+      → (put others a (max (E .arrays a) (E .regs s)) b ≤ top mis → E .regs s ≤ top mis)
+      → Alike t (raised E others a s) mis (stored t x b j (reg x s)) (stored t y b j (reg y s))
+  stored-alike E mis x y h others a s b j up g seen = record {
+    flag₁ = h .flag₁;
+    flag₂ = h .flag₂;
+    wide₁ = h .wide₁;
+    wide₂ = h .wide₂;
+    long = same-length (x .mem) (y .mem) (address t b j) (reg x s) (reg y s) (h .long);
+    regs = h .regs;
+    mem = λ c k m l. set-alike (x .mem) (y .mem) (address t b j) (reg x s) (reg y s) (address t c k) (h .long)
+        (λ q. h .regs s (seen (rw (← (disjoint (t .words) c k b j m g q)) l))) (λ _. h .mem c k m (le-trans (kept c) l));
+  }
+    where
+      kept : (c : ℕ) → E .arrays c ≤ put others a (max (E .arrays a) (E .regs s)) c
+      kept c = same c a (λ z. E .arrays c ≤ pick z (max (E .arrays a) (E .regs s)) (others c)) (λ q. rw q (omega arith)) (λ _. up c)
+
 -- ---- STORE and the other arrays
 beside-kept : (m l b v : ℕ) → v ≤ beside m l b v
 unfolding beside
@@ -194,25 +214,17 @@ module _ (t : Table) where
     store-works : (a i s : ℕ) → E .regs i ≡ 0 → Works t (after (t .arrays) (Store a i s) E) mis (work t (Store a i s) dir mis x) (work t (Store a i s) dir mis y)
     store-works a i s e = rw (public t E mis x y h i e) (go (access t a (reg y i) mis dir) (access-touches a (reg y i) mis dir))
       where
-        level : ℕ → ℕ
-        level = put (λ b. beside (t .arrays) (E .regs s) b (E .arrays b)) a (max (E .arrays a) (E .regs s))
+        others : ℕ → ℕ
+        others = λ b. beside (t .arrays) (E .regs s) b (E .arrays b)
 
-        -- what is written is seen only if the source is
-        source : (b : ℕ) (m : Bool) → m ≡ mis → (m ≡ false → b ≡ a) → b < t .arrays → level b ≤ top m → E .regs s ≤ top m
+        -- what a store writes is seen only if the source is
+        source : (b : ℕ) (m : Bool) → m ≡ mis → (m ≡ false → b ≡ a) → b < t .arrays → put others a (max (E .arrays a) (E .regs s)) b ≤ top m → E .regs s ≤ top m
         source b true e f k = same b a (λ z. pick z (max (E .arrays a) (E .regs s)) (beside (t .arrays) (E .regs s) b (E .arrays b)) ≤ 0 → E .regs s ≤ 0) (λ _ l. omega arith) (λ _. beside-source (t .arrays) (E .regs s) b (E .arrays b) k)
         source b false e f k = same b a (λ z. pick z (max (E .arrays a) (E .regs s)) (beside (t .arrays) (E .regs s) b (E .arrays b)) ≤ 1 → E .regs s ≤ 1) (λ _ l. omega arith) (λ n l. absurd (n (f refl)))
 
-        -- no array's level falls
-        kept : (b : ℕ) → E .arrays b ≤ level b
-        kept b = same b a (λ z. E .arrays b ≤ pick z (max (E .arrays a) (E .regs s)) (beside (t .arrays) (E .regs s) b (E .arrays b))) (λ q. rw q (omega arith)) (λ _. beside-kept (t .arrays) (E .regs s) b (E .arrays b))
-
-        cell : (b j c k : ℕ) → Touches a mis (Word b j) → k < wordsOf t c → level c ≤ top mis → wordAt t (stored t x b j (reg x s)) c k ≡ wordAt t (stored t y b j (reg y s)) c k
-        cell b j c k (f, g) m l = set-alike (x .mem) (y .mem) (address t b j) (reg x s) (reg y s) (address t c k) (h .long)
-            (λ q. h .regs s (source b mis refl f (in-words t b j g) (rw (← (disjoint (t .words) c k b j m g q)) l))) (λ _. h .mem c k m (le-trans (kept c) l))
-
         go : (z : Access) → Touches a mis z → Works t (after (t .arrays) (Store a i s) E) mis
             (byAccess z (λ b j. did (stored t x b j (reg x s)) (Address a (reg y i)))) (byAccess z (λ b j. did (stored t y b j (reg y s)) (Address a (reg y i))))
-        go (Word b j) f = (refl, record { flag₁ = h .flag₁; flag₂ = h .flag₂; wide₁ = h .wide₁; wide₂ = h .wide₂; long = same-length t (x .mem) (y .mem) (address t b j) _ _ (h .long); regs = h .regs; mem = λ c k. cell b j c k f })
+        go (Word b j) f = (refl, stored-alike t E mis x y h others a s b j (λ c. beside-kept (t .arrays) (E .regs s) c (E .arrays c)) (f .1) (source b mis refl (f .0) (in-words t b j (f .1))))
         go (Bad k) f = refl
 
     update-works : (r : ℕ) (s : Bool) → E .status ≡ Outdated r s → Works t (after (t .arrays) (Update r s) E) mis (work t (Update r s) dir mis x) (work t (Update r s) dir mis y)
@@ -259,6 +271,16 @@ module _ (t : Table) where
         shown : settle (E .regs s) ≤ top mis → pick (x .masked) 4294967295 (reg x s) ≡ pick (y .masked) 4294967295 (reg y s)
         shown l = rw (f₁, f₂) (value mis refl l)
 
+    -- a fixed access touches the word that it names
+    load-fixed-works : (d a i : ℕ) → i < wordsOf t a → Works t (after (t .arrays) (LoadFixed d a i) E) mis (work t (LoadFixed d a i) dir mis x) (work t (LoadFixed d a i) dir mis y)
+    load-fixed-works d a i k = plain-works t _ mis dir _ _ (refl, wrote-alike t E mis x y h d (E .arrays a) _ _ (h .mem a i k))
+
+    store-fixed-works : (a i s : ℕ) → i < wordsOf t a → Works t (after (t .arrays) (StoreFixed a i s) E) mis (work t (StoreFixed a i s) dir mis x) (work t (StoreFixed a i s) dir mis y)
+    store-fixed-works a i s k = plain-works t _ mis dir _ _ (refl, stored-alike t E mis x y h (E .arrays) a s a i (λ c. le-refl (E .arrays c)) k seen)
+      where
+        seen : put (E .arrays) a (max (E .arrays a) (E .regs s)) a ≤ top mis → E .regs s ≤ top mis
+        seen = same a a (λ z. pick z (max (E .arrays a) (E .regs s)) (E .arrays a) ≤ top mis → E .regs s ≤ top mis) (λ _ l. omega arith) (λ n. absurd (n refl))
+
   init-works : (E : Env) (mis : Bool) (x y : Data) → Alike t E mis x y → (dir : Directive) → Works t (after (t .arrays) Init E) mis (work t Init dir mis x) (work t Init dir mis y)
   init-works E true x y h dir = refl
   init-works E false x y h dir = plain-works t (after (t .arrays) Init E) false dir _ _ (
@@ -275,12 +297,14 @@ module _ (t : Table) where
   )
 
   -- ONE LEMMA PER KIND OF RECORD, together: the work of a simple record in two runs
-  pub simple-works : (E : Env) (mis : Bool) (x y : Data) → Alike t E mis x y → (dir : Directive) (s : Simple) → Needs s E → Works t (after (t .arrays) s E) mis (work t s dir mis x) (work t s dir mis y)
-  simple-works E mis x y h dir (Const d v) n = const-works E mis x y h dir d v
-  simple-works E mis x y h dir (Op d o l r) n = op-works E mis x y h dir d o l r
-  simple-works E mis x y h dir (Select d c u v) n = select-works E mis x y h dir d c u v
-  simple-works E mis x y h dir (Load d a i) n = load-works E mis x y h dir d a i n
-  simple-works E mis x y h dir (Store a i s) n = store-works E mis x y h dir a i s n
-  simple-works E mis x y h dir Init n = init-works E mis x y h dir
-  simple-works E mis x y h dir (Update r s) n = update-works E mis x y h dir r s n
-  simple-works E mis x y h dir (Protect d s) n = protect-works E mis x y h dir d s n
+  pub simple-works : (E : Env) (mis : Bool) (x y : Data) → Alike t E mis x y → (dir : Directive) (s : Simple) → SimpleReaches (t .words) s → Needs s E → Works t (after (t .arrays) s E) mis (work t s dir mis x) (work t s dir mis y)
+  simple-works E mis x y h dir (Const d v) k n = const-works E mis x y h dir d v
+  simple-works E mis x y h dir (Op d o l r) k n = op-works E mis x y h dir d o l r
+  simple-works E mis x y h dir (Select d c u v) k n = select-works E mis x y h dir d c u v
+  simple-works E mis x y h dir (Load d a i) k n = load-works E mis x y h dir d a i n
+  simple-works E mis x y h dir (Store a i s) k n = store-works E mis x y h dir a i s n
+  simple-works E mis x y h dir Init k n = init-works E mis x y h dir
+  simple-works E mis x y h dir (Update r s) k n = update-works E mis x y h dir r s n
+  simple-works E mis x y h dir (Protect d s) k n = protect-works E mis x y h dir d s n
+  simple-works E mis x y h dir (LoadFixed d a i) k n = load-fixed-works E mis x y h dir d a i k
+  simple-works E mis x y h dir (StoreFixed a i s) k n = store-fixed-works E mis x y h dir a i s k

@@ -11,7 +11,7 @@ use Rattle.model.specs.Rules.{Needs, NeedsOf, typing}
 use Rattle.model.specs.Walk.{Tests, Right}
 use Rattle.model.specs.declared.Status.the-variants.{Updated, Outdated}
 use Rattle.model.specs.declared.Simple.{Simple}
-use Rattle.model.specs.declared.Simple.the-variants.{Const, Op, Select, Load, Store, Init, Update, Protect}
+use Rattle.model.specs.declared.Simple.the-variants.{Const, Op, Select, Load, Store, Init, Update, Protect, LoadFixed, StoreFixed}
 use Rattle.model.specs.declared.Record.{Record}
 use Rattle.model.specs.declared.Record.the-variants.{Do, Call, If, Else, Endif, While, Endwhile, Return}
 
@@ -25,6 +25,8 @@ meets (Store a i s) E = eqb (E .regs i) 0
 meets Init E = true
 meets (Update r s) E = sameStatus (E .status) (Outdated r s)
 meets (Protect d s) E = sameStatus (E .status) Updated
+meets (LoadFixed d a i) E = true
+meets (StoreFixed a i s) E = true
 
 -- 10: index not public. 11: status not as UPDATE or PROTECT needs. The others ask nothing, and have no fault
 abbrev pub simpleNumber : Simple → ℕ
@@ -36,6 +38,8 @@ simpleNumber (Store a i s) = 10
 simpleNumber Init = 0
 simpleNumber (Update r s) = 11
 simpleNumber (Protect d s) = 11
+simpleNumber (LoadFixed d a i) = 0
+simpleNumber (StoreFixed a i s) = 0
 
 -- 13: not within the callee's in
 abbrev pub numberOf : Record → ℕ
@@ -63,6 +67,8 @@ meets-is (Store a i s) E = level-is (E .regs i)
 meets-is Init E = asks-nothing
 meets-is (Update r s) E = same-status-is (E .status) (Outdated r s)
 meets-is (Protect d s) E = same-status-is (E .status) Updated
+meets-is (LoadFixed d a i) E = asks-nothing
+meets-is (StoreFixed a i s) E = asks-nothing
 
 module _ (t : Table) where
   abbrev pub meetsOf : Record → Env → Bool

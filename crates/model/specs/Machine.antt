@@ -17,7 +17,7 @@ use Rattle.model.specs.declared.Directive.the-variants.{Plain, Branch, S
 use Rattle.model.specs.declared.Observation.{Observation}
 use Rattle.model.specs.declared.Observation.the-variants.{Nothing, Way, Address}
 use Rattle.model.specs.declared.Simple.{Simple}
-use Rattle.model.specs.declared.Simple.the-variants.{Const, Op, Select, Load, Store, Init, Update, Protect}
+use Rattle.model.specs.declared.Simple.the-variants.{Const, Op, Select, Load, Store, Init, Update, Protect, LoadFixed, StoreFixed}
 use Rattle.model.specs.declared.Record.{Record}
 use Rattle.model.specs.declared.Record.the-variants.{Do, Call, If, Else, Endif, While, Endwhile, Return}
 
@@ -136,6 +136,8 @@ module _ (t : Table) where
   work Init dir mis x = pick mis (halt 23) (plain dir (did (flagged x false) Nothing))
   work (Update r s) dir mis x = plain dir (did (flagged x (pick (holds (reg x r) s) (x .masked) true)) Nothing)
   work (Protect d s) dir mis x = plain dir (did (wrote x d (pick (x .masked) 4294967295 (reg x s))) Nothing)
+  work (LoadFixed d a i) dir mis x = plain dir (did (wrote x d (wordAt t x a i)) (Address a i))
+  work (StoreFixed a i s) dir mis x = plain dir (did (stored t x a i (reg x s)) (Address a i))
 
   -- a record that changes no data
   abbrev pub pass : Directive → Data → Ctl → Stepped

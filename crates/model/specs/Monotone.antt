@@ -16,7 +16,7 @@ use Rattle.model.specs.Blocks.{Types, done, one, branch, loop}
 use Rattle.model.specs.declared.Status.{Status}
 use Rattle.model.specs.declared.Status.the-variants.{Unknown, Updated, Outdated}
 use Rattle.model.specs.declared.Simple.{Simple}
-use Rattle.model.specs.declared.Simple.the-variants.{Const, Op, Select, Load, Store, Init, Update, Protect}
+use Rattle.model.specs.declared.Simple.the-variants.{Const, Op, Select, Load, Store, Init, Update, Protect, LoadFixed, StoreFixed}
 use Rattle.model.specs.declared.Record.{Record}
 use Rattle.model.specs.declared.Record.the-variants.{Do, Call, If, Else, Endif, While, Endwhile, Return}
 
@@ -70,6 +70,8 @@ module _ (n m : ℕ) (E F : Env) (w : Within n m E F) where
   needs-down Init f h = tt
   needs-down (Update r s) f h = subst (Covers (E .status)) h (w .status)
   needs-down (Protect d s) f h = subst (Covers (E .status)) h (w .status)
+  needs-down (LoadFixed d a i) f h = tt
+  needs-down (StoreFixed a i s) f h = tt
 
   pub after-mono : (i : Simple) → SimpleFits n m i → Within n m (after m i E) (after m i F)
   after-mono (Const d v) f = written-mono d 0 0 (le-refl 0)
@@ -88,6 +90,13 @@ module _ (n m : ℕ) (E F : Env) (w : Within n m E F) where
     status = refl;
     regs = λ i l. same i d (λ b. pick b (settle (E .regs s)) (E .regs i) ≤ pick b (settle (F .regs s)) (F .regs i)) (λ _. settle-mono (E .regs s) (F .regs s) (w .regs s (f .1))) (λ _. w .regs i l);
     arrays = w .arrays;
+  }
+  after-mono (LoadFixed d a i) f = written-mono d _ _ (w .arrays a (f .1))
+  after-mono (StoreFixed a i s) f = record {
+    status = w .status;
+    regs = w .regs;
+    arrays = λ b l. same b a (λ x. pick x (max (E .arrays a) (E .regs s)) (E .arrays b) ≤ pick x (max (F .arrays a) (F .regs s)) (F .arrays b))
+        (λ _. omega (arith, w .arrays a (f .0), w .regs s (f .1))) (λ _. w .arrays b l);
   }
 
 join-mono : (n m : ℕ) (E E′ F F′ : Env) → Within n m E F → Within n m E′ F′ → Within n m (join E E′) (join F F′)

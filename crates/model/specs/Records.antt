@@ -1,8 +1,10 @@
 -- Document 01, "Table layout": the records of code, decoded.
 use Prim.Native.Nat.{ℕ, _≤_, _<_}
+use mathlib.Core.List.{List}
+use lib.ListN.{getD}
 use native.Mathlib.Omega.{arith}
 use Rattle.model.specs.declared.Simple.{Simple}
-use Rattle.model.specs.declared.Simple.the-variants.{Const, Op, Select, Load, Store, Init, Update, Protect}
+use Rattle.model.specs.declared.Simple.the-variants.{Const, Op, Select, Load, Store, Init, Update, Protect, LoadFixed, StoreFixed}
 use Rattle.model.specs.declared.Record.{Record}
 use Rattle.model.specs.declared.Record.the-variants.{Do, Call, If, Else, Endif, While, Endwhile, Return}
 
@@ -16,6 +18,8 @@ simpleLength (Store a i s) = 4
 simpleLength Init = 1
 simpleLength (Update r s) = 3
 simpleLength (Protect d s) = 3
+simpleLength (LoadFixed d a i) = 5
+simpleLength (StoreFixed a i s) = 5
 
 abbrev pub lengthOf : Record → ℕ
 lengthOf (Do s) = simpleLength s
@@ -37,6 +41,8 @@ simple-pos (Store a i s) = omega arith
 simple-pos Init = omega arith
 simple-pos (Update r s) = omega arith
 simple-pos (Protect d s) = omega arith
+simple-pos (LoadFixed d a i) = omega arith
+simple-pos (StoreFixed a i s) = omega arith
 
 pub length-pos : (i : Record) → 1 ≤ lengthOf i
 length-pos (Do s) = simple-pos s
@@ -80,6 +86,8 @@ SimpleFits n m (Store a i s) = (a < m) × (i < n) × (s < n)
 SimpleFits n m Init = Unit {0}
 SimpleFits n m (Update r s) = r < n
 SimpleFits n m (Protect d s) = (d < n) × (s < n)
+SimpleFits n m (LoadFixed d a i) = (d < n) × (a < m)
+SimpleFits n m (StoreFixed a i s) = (a < m) × (s < n)
 
 abbrev pub Fits : ℕ → ℕ → Record → Type 0
 Fits n m (Do s) = SimpleFits n m s
@@ -90,3 +98,26 @@ Fits n m Endif = Unit {0}
 Fits n m (While r e L) = r < n
 Fits n m (Endwhile w) = Unit {0}
 Fits n m Return = Unit {0}
+
+-- an index that stands in the record is below its array's words (fault 4 too)
+abbrev pub SimpleReaches : List ℕ → Simple → Type 0
+SimpleReaches ws (Const d v) = Unit {0}
+SimpleReaches ws (Op d o l r) = Unit {0}
+SimpleReaches ws (Select d c y n) = Unit {0}
+SimpleReaches ws (Load d a i) = Unit {0}
+SimpleReaches ws (Store a i s) = Unit {0}
+SimpleReaches ws Init = Unit {0}
+SimpleReaches ws (Update r s) = Unit {0}
+SimpleReaches ws (Protect d s) = Unit {0}
+SimpleReaches ws (LoadFixed d a i) = i < getD ws a 0
+SimpleReaches ws (StoreFixed a i s) = i < getD ws a 0
+
+abbrev pub Reaches : List ℕ → Record → Type 0
+Reaches ws (Do s) = SimpleReaches ws s
+Reaches ws (Call f m) = Unit {0}
+Reaches ws (If r e) = Unit {0}
+Reaches ws (Else n) = Unit {0}
+Reaches ws Endif = Unit {0}
+Reaches ws (While r e L) = Unit {0}
+Reaches ws (Endwhile w) = Unit {0}
+Reaches ws Return = Unit {0}

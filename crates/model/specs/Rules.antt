@@ -12,7 +12,7 @@ use Rattle.model.specs.Blocks.{Rules, Every}
 use Rattle.model.specs.declared.Status.{Status}
 use Rattle.model.specs.declared.Status.the-variants.{Unknown, Updated, Outdated}
 use Rattle.model.specs.declared.Simple.{Simple}
-use Rattle.model.specs.declared.Simple.the-variants.{Const, Op, Select, Load, Store, Init, Update, Protect}
+use Rattle.model.specs.declared.Simple.the-variants.{Const, Op, Select, Load, Store, Init, Update, Protect, LoadFixed, StoreFixed}
 use Rattle.model.specs.declared.Record.{Record}
 use Rattle.model.specs.declared.Record.the-variants.{Do, Call, If, Else, Endif, While, Endwhile, Return}
 
@@ -47,13 +47,17 @@ beside m l b v = pick (ltb b m) (max v (min 1 l)) v
 abbrev pub written : Env → ℕ → ℕ → Env
 written E d l = record { status = kill d (E .status); regs = put (E .regs) d l; arrays = E .arrays }
 
+-- "the named array gets the larger of its level and the source's"; the levels of the others are given
+abbrev pub raised : Env → (ℕ → ℕ) → ℕ → ℕ → Env
+raised E others a s = record { status = E .status; regs = E .regs; arrays = put others a (max (E .arrays a) (E .regs s)) }
+
 -- register s is stored into array a of m
 abbrev pub stored : ℕ → Env → ℕ → ℕ → Env
-stored m E a s = record {
-  status = E .status;
-  regs = E .regs;
-  arrays = put (λ b. beside m (E .regs s) b (E .arrays b)) a (max (E .arrays a) (E .regs s));
-}
+stored m E a s = raised E (λ b. beside m (E .regs s) b (E .arrays b)) a s
+
+-- order 1: register s is stored into array a at a fixed place
+abbrev pub storedFixed : Env → ℕ → ℕ → Env
+storedFixed E a s = raised E (E .arrays) a s
 
 -- INIT
 abbrev pub fenced : Env → Env
@@ -81,6 +85,8 @@ Needs (Store a i s) E = E .regs i ≡ 0
 Needs Init E = Unit {0}
 Needs (Update r s) E = E .status ≡ Outdated r s
 Needs (Protect d s) E = E .status ≡ Updated
+Needs (LoadFixed d a i) E = Unit {0}
+Needs (StoreFixed a i s) E = Unit {0}
 
 -- the environment after it, in a table of m arrays
 abbrev pub after : ℕ → Simple → Env → Env
@@ -92,6 +98,8 @@ after m (Store a i s) E = stored m E a s
 after m Init E = fenced E
 after m (Update r s) E = updated E
 after m (Protect d s) E = protected E d s
+after m (LoadFixed d a i) E = written E d (E .arrays a)
+after m (StoreFixed a i s) E = storedFixed E a s
 
 -- after a CALL: the callee's out levels. (The environment before it does not count; order 8 will use it.)
 abbrev pub returned : Env → Bool → Env → Env

@@ -9,7 +9,7 @@ use mathlib.Core.Option.{Option, none, some}
 use lib.Dec.{leb}
 use Rattle.model.specs.Tests.{pick, test, same}
 use Rattle.model.specs.Levels.{Env, Covers, Within}
-use Rattle.model.specs.Records.{lengthOf, simpleLength}
+use Rattle.model.specs.Records.{lengthOf, simpleLength, SimpleReaches, Reaches}
 use Rattle.model.specs.Table.{Table}
 use Rattle.model.specs.declared.Status.{Status}
 use Rattle.model.specs.declared.Status.the-variants.{Unknown, Updated, Outdated}
@@ -18,7 +18,6 @@ use Rattle.model.specs.declared.Directive.the-variants.{Plain, Branch, S
 use Rattle.model.specs.declared.Observation.{Observation}
 use Rattle.model.specs.declared.Observation.the-variants.{Nothing, Way, Address}
 use Rattle.model.specs.declared.Simple.{Simple}
-use Rattle.model.specs.declared.Simple.the-variants.{Const, Op, Select, Load, Store, Init, Update, Protect}
 use Rattle.model.specs.declared.Record.{Record}
 use Rattle.model.specs.declared.Record.the-variants.{Do, Call, If, Else, Endif, While, Endwhile, Return}
 use Rattle.model.specs.Rules.{Needs, guardStatus, callStatus, guarded, after, afterOf, typing}
@@ -119,9 +118,9 @@ module _ (t : Table) (at : ℕ → ℕ → Env → Type 0) where
     site-to f q m s = rw (s .follows) (subst (Flow t (typing t) at (s .caller) (s .call) (s .env)) (s .is) (flows (s .caller) (s .call) (s .env) (s .here)) .0 .1)
 
     module _ (f : ℕ) (E : Env) (c : Ctl) (x y : Data) (fs : Frames t (typing t) at f (c .stack)) (h : Alike t E (c .mis) x y) where
-      simple-same : (i : Simple) (dir : Directive) → Needs i E → To t (typing t) at f (c .place + simpleLength i) (after (t .arrays) i E)
+      simple-same : (i : Simple) (dir : Directive) → SimpleReaches (t .words) i → Needs i E → To t (typing t) at f (c .place + simpleLength i) (after (t .arrays) i E)
           → SameStep (onward (work t i dir (c .mis) x) (to c (c .place + simpleLength i))) (onward (work t i dir (c .mis) y) (to c (c .place + simpleLength i)))
-      simple-same i dir n w = onward-same (after (t .arrays) i E) (c .mis) (work t i dir (c .mis) x) (work t i dir (c .mis) y) (to c (c .place + simpleLength i)) (simple-works t E (c .mis) x y h dir i n)
+      simple-same i dir k n w = onward-same (after (t .arrays) i E) (c .mis) (work t i dir (c .mis) x) (work t i dir (c .mis) y) (to c (c .place + simpleLength i)) (simple-works t E (c .mis) x y h dir i k n)
           (λ x′ y′ h′. arrive f (after (t .arrays) i E) (to c (c .place + simpleLength i)) x′ y′ w fs h′)
 
       -- the data stay as they are
@@ -161,7 +160,7 @@ module _ (t : Table) (at : ℕ → ℕ → Env → Type 0) where
               (λ _. lost (t .site (c .place) q) refl)
 
       step-by : (i : Record) (dir : Directive) → t .rec (c .place) ≡ i → at f (c .place) E → Flow t (typing t) at f (c .place) E i → SameStep (stepOf t i c dir x) (stepOf t i c dir y)
-      step-by (Do s) dir r a w = simple-same s dir (w .0) (w .1)
+      step-by (Do s) dir r a w = simple-same s dir (subst (Reaches (t .words)) r (t .reaches (c .place))) (w .0) (w .1)
       step-by (Call g m) dir r a w = plain-same dir _ (arrive g (t .enter g) _ x y (w .1)
           (m, record { caller = f; call = c .place; env = E; here = a; is = r; follows = refl }, fs)
           (weaken t E (t .enter g) (c .mis) x y (w .0 .0) h))

@@ -6,7 +6,7 @@ use mathlib.Core.List.{List}
 use mathlib.Core.Option.{Option}
 use lib.ListN.{length}
 use Rattle.model.specs.Levels.{Env}
-use Rattle.model.specs.Records.{Fits}
+use Rattle.model.specs.Records.{Fits, Reaches}
 use Rattle.model.specs.declared.Record.{Record}
 
 pub record Table : Type 0 where
@@ -16,6 +16,7 @@ pub record Table : Type 0 where
   pub words : List ℕ  -- the words of each array
   pub counted : length words ≡ arrays
   pub fits : (p : ℕ) → Fits registers arrays (rec p)
+  pub reaches : (p : ℕ) → Reaches words (rec p)
   pub functions : ℕ
   pub start : ℕ → ℕ  -- of a function: its first place
   pub ret : ℕ → ℕ  -- of a function: its RETURN

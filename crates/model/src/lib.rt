@@ -59,6 +59,16 @@ pub enum Simple {
         dest: u8,
         source: u8,
     },
+    LoadFixed {
+        dest: u8,
+        array: u8,
+        index: u16,
+    },
+    StoreFixed {
+        array: u8,
+        index: u16,
+        source: u8,
+    },
 }
 
 // A decoded record of code.
