@@ -1,5 +1,5 @@
 -- Document 01, "Table layout": one record of code, over the bytes of a table.
-use Prim.Native.Nat.{ℕ, _+_, _-_, _*_}
+use Prim.Native.Nat.{ℕ, zero, suc, _+_, _-_, _*_}
 use mathlib.Core.List.{List, [], _∷_}
 use mathlib.Core.Bool.{Bool, true, false}
 use lib.ListN.{length, getD}
@@ -9,7 +9,7 @@ use Rattle.model.specs.Packing.{packedIn}
 use Rattle.model.specs.Records.{lengthOf}
 use Rattle.model.specs.declared.Sizes.{Sizes}
 use Rattle.model.specs.declared.Packed.{Packed}
-use Rattle.model.specs.declared.Simple.the-variants.{Const, Op, Select, Load, Store, Init, Update, Protect}
+use Rattle.model.specs.declared.Simple.the-variants.{Const, Op, Select, Load, Store, Init, Update, Protect, LoadFixed, StoreFixed}
 use Rattle.model.specs.declared.Record.{Record}
 use Rattle.model.specs.declared.Record.the-variants.{Do, Call, If, Else, Endif, While, Endwhile, Return}
 use Rattle.format.specs.declared.Decoded.{Decoded}
@@ -28,6 +28,17 @@ word32 t p = byte t p + byte t (p + 1) * 256 + byte t (p + 2) * 65536 + byte t (
 -- seven bytes: status, registers, arrays
 abbrev pub packedAt : List ℕ → ℕ → Packed
 packedAt t p = record { status = byte t p; registers = word32 t (p + 1); arrays = word16 t (p + 5) }
+
+-- where the record of array a stands, after the sizes; the words of array a; of the n arrays from a on
+abbrev pub arrayPlace : Sizes → ℕ → ℕ
+arrayPlace z a = 4 + 3 * a
+
+abbrev pub wordsAt : Sizes → List ℕ → ℕ → ℕ
+wordsAt z t a = word16 t (arrayPlace z a + 1)
+
+unfoldable pub wordsFrom : Sizes → List ℕ → ℕ → ℕ → List ℕ
+wordsFrom z t zero a = []
+wordsFrom z t (suc n) a = wordsAt z t a ∷ wordsFrom z t n (suc a)
 
 -- the first row with key k
 abbrev pub find : {A : Type 0} → ℕ → A → List (ℕ × A) → A
@@ -49,6 +60,8 @@ rowsOf z t at =
     let reg : ℕ → Bool = λ i. ltb (byte t (at + i)) (z .registers) in
     let arr : ℕ → Bool = λ i. ltb (byte t (at + i)) (z .arrays) in
     let bit : ℕ → Bool = λ i. ltb (byte t (at + i)) 2 in
+    -- byte i names the array, bytes j and j + 1 the word
+    let word : ℕ → ℕ → Bool = λ i j. ltb (word16 t (at + j)) (wordsAt z t (byte t (at + i))) in
     (16, reg 1 ∷ [], Do (Const (b 1) (word32 t (at + 2)))) ∷
     (17, reg 1 ∷ ltb (b 2) 8 ∷ reg 3 ∷ reg 4 ∷ [], Do (Op (b 1) (b 2) (b 3) (b 4))) ∷
     (18, reg 1 ∷ reg 2 ∷ reg 3 ∷ reg 4 ∷ [], Do (Select (b 1) (b 2) (b 3) (b 4))) ∷
@@ -58,6 +71,8 @@ rowsOf z t at =
     (22, reg 1 ∷ bit 2 ∷ [], Do (Update (b 1) (eqb (b 2) 1))) ∷
     (23, reg 1 ∷ reg 2 ∷ [], Do (Protect (b 1) (b 2))) ∷
     (24, ltb (b 1) (z .functions) ∷ bit 2 ∷ [], Call (b 1) (eqb (b 2) 1)) ∷
+    (27, reg 1 ∷ arr 2 ∷ word 2 3 ∷ [], Do (LoadFixed (b 1) (b 2) (word16 t (at + 3)))) ∷
+    (28, arr 1 ∷ word 1 2 ∷ reg 4 ∷ [], Do (StoreFixed (b 1) (word16 t (at + 2)) (b 4))) ∷
     (32, reg 1 ∷ [], If (b 1) (word16 t (at + 2))) ∷
     (33, [], Else (word16 t (at + 1))) ∷
     (34, [], Endif) ∷

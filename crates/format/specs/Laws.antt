@@ -1,6 +1,7 @@
 -- What every decoded record is: of the kind that its byte says, in range, whole in the table.
-use Prim.Native.Nat.{ℕ, _+_, _-_, _<_, _≤_}
+use Prim.Native.Nat.{ℕ, zero, suc, _+_, _-_, _<_, _≤_}
 use native.Mathlib.Omega.{arith}
+use native.Mathlib.Nat.{zero-add}
 use mathlib.Core.Path.{_≡_, refl, sym, ap, subst, _∙_}
 use mathlib.Core.List.{List, [], _∷_}
 use mathlib.Core.Bool.{Bool, true, false, true≢false}
@@ -8,15 +9,15 @@ use lib.ListN.{length, getD}
 use lib.Dec.{ltb, leb, eqb}
 use borrow.Author.Tests.{ltb-true, ltb-false, leb-false, eqb-true}
 use Rattle.model.specs.Tests.{pick, all, pick-ind}
-use Rattle.model.specs.Records.{lengthOf, length-pos, Fits}
+use Rattle.model.specs.Records.{lengthOf, length-pos, Fits, Reaches}
 use Rattle.model.specs.declared.Sizes.{Sizes}
 use Rattle.model.specs.declared.Simple.{Simple}
-use Rattle.model.specs.declared.Simple.the-variants.{Const, Op, Select, Load, Store, Init, Update, Protect}
+use Rattle.model.specs.declared.Simple.the-variants.{Const, Op, Select, Load, Store, Init, Update, Protect, LoadFixed, StoreFixed}
 use Rattle.model.specs.declared.Record.{Record}
 use Rattle.model.specs.declared.Record.the-variants.{Do, Call, If, Else, Endif, While, Endwhile, Return}
 use Rattle.format.specs.declared.Decoded.{Decoded}
 use Rattle.format.specs.declared.Decoded.the-variants.{Got, Bad}
-use Rattle.format.specs.Format.{byte, word16, shaped, Row, rowsOf, byRow, rowAt, decodeAt}
+use Rattle.format.specs.Format.{byte, word16, wordsAt, wordsFrom, shaped, Row, rowsOf, byRow, rowAt, decodeAt}
 
 -- every test of a list holds
 abbrev pub Trues : List Bool → Type 0
@@ -38,6 +39,8 @@ simpleKind (Store a i s) = 20
 simpleKind Init = 21
 simpleKind (Update r s) = 22
 simpleKind (Protect d s) = 23
+simpleKind (LoadFixed d a i) = 27
+simpleKind (StoreFixed a i s) = 28
 
 abbrev pub kindOf : Record → ℕ
 kindOf (Do s) = simpleKind s
@@ -60,9 +63,22 @@ Names t at (While r e L) = e ≡ word16 t (at + 2)
 Names t at (Endwhile w) = w ≡ word16 t (at + 1)
 Names t at Return = Unit {0}
 
+-- the words of one array
+pub words-in : (z : Sizes) (t : List ℕ) (n b a : ℕ) → a < n → getD (wordsFrom z t n b) a 0 ≡ wordsAt z t (b + a)
+unfolding wordsFrom
+words-in z t zero b a l = absurd (omega arith)
+words-in z t (suc n) b zero l = let e : b + 0 ≡ b = omega arith in rw e
+words-in z t (suc n) b (suc a) l = let e : b + suc a ≡ suc b + a = omega arith in rw e (words-in z t n (suc b) a (omega arith))
+
+pub words-first : (z : Sizes) (t : List ℕ) (n a : ℕ) → a < n → getD (wordsFrom z t n 0) a 0 ≡ wordsAt z t a
+words-first z t n a l = words-in z t n 0 a l ∙ ap (wordsAt z t) (zero-add a)
+
 -- a row has its kind, and where its tests hold its fields are in range
+abbrev Ranged : Sizes → List ℕ → Record → Type 0
+Ranged z t r = Fits (z .registers) (z .arrays) r × Reaches (wordsFrom z t (z .arrays) 0) r
+
 abbrev RowFits : Sizes → List ℕ → ℕ → Row → Type 0
-RowFits z t at r = (Trues (r .1) → Fits (z .registers) (z .arrays) (r .2)) × (kindOf (r .2) ≡ r .0) × Names t at (r .2)
+RowFits z t at r = (Trues (r .1) → Ranged z t (r .2)) × (kindOf (r .2) ≡ r .0) × Names t at (r .2)
 
 abbrev AllFit : Sizes → List ℕ → ℕ → List Row → Type 0
 AllFit z t at [] = Unit {0}
@@ -72,37 +88,45 @@ rows-fit : (z : Sizes) (t : List ℕ) (at : ℕ) → AllFit z t at (rowsOf z t a
 rows-fit z t at =
     let n = z .registers in
     let m = z .arrays in
-    let lt : (i k : ℕ) → ltb (byte t (at + i)) k ≡ true → byte t (at + i) < k = λ i k. ltb-true (byte t (at + i)) k in (
-      (λ w. lt 1 n (w .0), refl, tt),
+    let lt : (i k : ℕ) → ltb (byte t (at + i)) k ≡ true → byte t (at + i) < k = λ i k. ltb-true (byte t (at + i)) k in
+    let word : (i j : ℕ) → byte t (at + i) < m → ltb (word16 t (at + j)) (wordsAt z t (byte t (at + i))) ≡ true → word16 t (at + j) < getD (wordsFrom z t m 0) (byte t (at + i)) 0 =
+    λ i j l h. rw (words-first z t m (byte t (at + i)) l) (ltb-true (word16 t (at + j)) (wordsAt z t (byte t (at + i))) h) in (
+      (λ w. (lt 1 n (w .0), tt), refl, tt),
       (
-        (λ w. (lt 1 n (w .0), lt 2 8 (w .1 .0), lt 3 n (w .1 .1 .0), lt 4 n (w .1 .1 .1 .0)), refl, tt),
+        (λ w. ((lt 1 n (w .0), lt 2 8 (w .1 .0), lt 3 n (w .1 .1 .0), lt 4 n (w .1 .1 .1 .0)), tt), refl, tt),
         (
-          (λ w. (lt 1 n (w .0), lt 2 n (w .1 .0), lt 3 n (w .1 .1 .0), lt 4 n (w .1 .1 .1 .0)), refl, tt),
+          (λ w. ((lt 1 n (w .0), lt 2 n (w .1 .0), lt 3 n (w .1 .1 .0), lt 4 n (w .1 .1 .1 .0)), tt), refl, tt),
           (
-            (λ w. (lt 1 n (w .0), lt 2 m (w .1 .0), lt 3 n (w .1 .1 .0)), refl, tt),
+            (λ w. ((lt 1 n (w .0), lt 2 m (w .1 .0), lt 3 n (w .1 .1 .0)), tt), refl, tt),
             (
-              (λ w. (lt 1 m (w .0), lt 2 n (w .1 .0), lt 3 n (w .1 .1 .0)), refl, tt),
+              (λ w. ((lt 1 m (w .0), lt 2 n (w .1 .0), lt 3 n (w .1 .1 .0)), tt), refl, tt),
               (
-                (λ w. tt, refl, tt),
+                (λ w. (tt, tt), refl, tt),
                 (
-                  (λ w. lt 1 n (w .0), refl, tt),
+                  (λ w. (lt 1 n (w .0), tt), refl, tt),
                   (
-                    (λ w. (lt 1 n (w .0), lt 2 n (w .1 .0)), refl, tt),
+                    (λ w. ((lt 1 n (w .0), lt 2 n (w .1 .0)), tt), refl, tt),
                     (
-                      (λ w. tt, refl, tt),
+                      (λ w. (tt, tt), refl, tt),
                       (
-                        (λ w. lt 1 n (w .0), refl, refl),
+                        (λ w. ((lt 1 n (w .0), lt 2 m (w .1 .0)), word 2 3 (lt 2 m (w .1 .0)) (w .1 .1 .0)), refl, tt),
                         (
-                          (λ w. tt, refl, refl),
+                          (λ w. ((lt 1 m (w .0), lt 4 n (w .1 .1 .0)), word 1 2 (lt 1 m (w .0)) (w .1 .0)), refl, tt),
                           (
-                            (λ w. tt, refl, tt),
+                            (λ w. (lt 1 n (w .0), tt), refl, refl),
                             (
-                              (λ w. lt 1 n (w .0), refl, refl),
+                              (λ w. (tt, tt), refl, refl),
                               (
-                                (λ w. tt, refl, refl),
+                                (λ w. (tt, tt), refl, tt),
                                 (
-                                  (λ w. tt, refl, tt),
-                                  tt,
+                                  (λ w. (lt 1 n (w .0), tt), refl, refl),
+                                  (
+                                    (λ w. (tt, tt), refl, refl),
+                                    (
+                                      (λ w. (tt, tt), refl, tt),
+                                      tt,
+                                    ),
+                                  ),
                                 ),
                               ),
                             ),
@@ -123,6 +147,7 @@ rows-fit z t at =
 pub record Good (z : Sizes) (t : List ℕ) (at : ℕ) (r : Record) (n : ℕ) : Type 0 where
   pub kind : kindOf r ≡ byte t at
   pub fits : Fits (z .registers) (z .arrays) r
+  pub reaches : Reaches (wordsFrom z t (z .arrays) 0) r
   pub names : Names t at r
   pub next : n ≡ at + lengthOf r
   pub whole : n ≤ length t
@@ -138,7 +163,7 @@ rows-sound z t at k (r ∷ rs) e l f =
     (λ q. pick-ind (Sound z t at) (ltb (length t - at) (lengthOf (r .2))) (λ _. tt)
     (λ c. let c2 = ltb-false (length t - at) (lengthOf (r .2)) c in
     pick-ind (Sound z t at) (all (r .1))
-    (λ h. record { kind = f .0 .1 ∙ sym (eqb-true k (r .0) q) ∙ e; fits = f .0 .0 (trues (r .1) h); names = f .0 .2; next = refl; whole = omega arith })
+    (λ h. record { kind = f .0 .1 ∙ sym (eqb-true k (r .0) q) ∙ e; fits = f .0 .0 (trues (r .1) h) .0; reaches = f .0 .0 (trues (r .1) h) .1; names = f .0 .2; next = refl; whole = omega arith })
     (λ _. tt)))
     (λ _. rows-sound z t at k rs e l (f .1))
 

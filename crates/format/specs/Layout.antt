@@ -7,7 +7,7 @@ use lib.ListN.{length, getD}
 use lib.Dec.{eqb}
 use Rattle.model.specs.Tests.{pick}
 use Rattle.model.specs.Packing.{envOf}
-use Rattle.model.specs.Records.{Fits}
+use Rattle.model.specs.Records.{Fits, Reaches}
 use Rattle.model.specs.Sites.{scan, homeOf}
 use Rattle.model.specs.Table.{Table}
 use Rattle.model.specs.declared.Sizes.{Sizes}
@@ -16,17 +16,14 @@ use Rattle.model.specs.declared.Record.{Record}
 use Rattle.model.specs.declared.Record.the-variants.{Return}
 use Rattle.format.specs.declared.Decoded.{Decoded}
 use Rattle.format.specs.declared.Decoded.the-variants.{Got, Bad}
-use Rattle.format.specs.Format.{byte, word16, packedAt, decodeAt}
+use Rattle.format.specs.Format.{byte, word16, packedAt, arrayPlace, wordsAt, wordsFrom, decodeAt}
 use Rattle.format.specs.Laws.{good}
 
 -- bytes 1 to 3
 abbrev pub sizesOf : List ℕ → Sizes
 sizesOf t = record { registers = byte t 1; arrays = byte t 2; functions = byte t 3 }
 
--- where the record of array a stands, and function f's signature: kind, start place, in, out
-abbrev pub arrayPlace : Sizes → ℕ → ℕ
-arrayPlace z a = 4 + 3 * a
-
+-- where function f's signature stands, after the arrays: kind, start place, in, out
 abbrev pub signaturePlace : Sizes → ℕ → ℕ
 signaturePlace z f = arrayPlace z (z .arrays) + 17 * f
 
@@ -38,14 +35,6 @@ inOf z t f = packedAt t (signaturePlace z f + 3)
 
 abbrev pub outOf : Sizes → List ℕ → ℕ → Packed
 outOf z t f = packedAt t (signaturePlace z f + 10)
-
--- the words of array a; of the n arrays from a on
-abbrev pub wordsAt : Sizes → List ℕ → ℕ → ℕ
-wordsAt z t a = word16 t (arrayPlace z a + 1)
-
-unfoldable pub wordsFrom : Sizes → List ℕ → ℕ → ℕ → List ℕ
-wordsFrom z t zero a = []
-wordsFrom z t (suc n) a = wordsAt z t a ∷ wordsFrom z t n (suc a)
 
 -- the record at p; where none can be read, RETURN stands for it
 abbrev pub recordFrom : Decoded → Record
@@ -72,6 +61,14 @@ record-fits z t p = go (decodeAt z t p) refl
     go (Got r n) e = good z t p e .fits
     go (Bad n q) e = tt
 
+pub record-reaches : (z : Sizes) (t : List ℕ) (p : ℕ) → Reaches (wordsFrom z t (z .arrays) 0) (recordOf z t p)
+unfolding recordOf
+record-reaches z t p = go (decodeAt z t p) refl
+  where
+    go : (d : Decoded) → decodeAt z t p ≡ d → Reaches (wordsFrom z t (z .arrays) 0) (recordFrom d)
+    go (Got r n) e = good z t p e .reaches
+    go (Bad n q) e = tt
+
 -- THE TABLE that bytes stand for, by the sizes z; and by their own sizes
 abbrev pub tableWith : Sizes → List ℕ → Table
 tableWith z t = record {
@@ -81,6 +78,7 @@ tableWith z t = record {
   words = wordsFrom z t (z .arrays) 0;
   counted = words-count z t (z .arrays) 0;
   fits = record-fits z t;
+  reaches = record-reaches z t;
   functions = z .functions;
   start = startOf z t;
   ret = returnOf z t;

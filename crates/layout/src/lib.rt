@@ -7,7 +7,8 @@ use model::Packed;
 use model::Sizes;
 ghost use mathlib.Core.Path.{_≡_};
 ghost use Prim.Native.Nat.{_+_, _*_, _<_};
-ghost use Rattle.format.specs.Layout.{sizesOf, arrayPlace, signaturePlace, startOf, inOf, outOf, wordsAt};
+ghost use Rattle.format.specs.Format.{arrayPlace, wordsAt};
+ghost use Rattle.format.specs.Layout.{sizesOf, signaturePlace, startOf, inOf, outOf};
 
 fn wide(x: u8) -> usize
     ensures { λ r. ⌜ (r ≡ x) × (r < 256) ⌝ }

@@ -14,9 +14,9 @@ use Rattle.model.specs.Typing.{typeFrom}
 use Rattle.model.specs.declared.Status.{Status}
 use Rattle.model.specs.declared.Status.the-variants.{Unknown, Updated, Outdated}
 use Rattle.model.specs.declared.Simple.the-variants.{Store, Update, Protect}
-use Rattle.format.specs.Format.{rowAt, decodeAt}
+use Rattle.format.specs.Format.{rowAt, decodeAt, wordsFrom}
 use Rattle.format.specs.Head.{sizesAt, arrayAt, signatureAt, arraysAt, signaturesAt}
-use Rattle.format.specs.Layout.{wordsFrom, recordOf, returnOf, tableOf}
+use Rattle.format.specs.Layout.{recordOf, returnOf, tableOf}
 use Rattle.reading.specs.Reading.{allowed, recordAt, callAt, ifWith, whileWith, blockWith, instrAt, blockAt, functionAt, functionsAt, partsAt, readAt}
 use Rattle.typing.specs.Check.{checkAt}
 use Rattle.typing.specs.declared.Verdict.{Verdict}

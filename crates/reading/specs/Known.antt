@@ -18,9 +18,9 @@ use Rattle.model.specs.Rules.{reading}
 use Rattle.model.specs.Code.{Called, Reads as Known}
 use Rattle.model.specs.declared.Sizes.{Sizes}
 use Rattle.model.specs.declared.Status.the-variants.{Unknown}
-use Rattle.format.specs.Format.{byte, word16, packedAt}
+use Rattle.format.specs.Format.{byte, word16, packedAt, arrayPlace}
 use Rattle.format.specs.Head.{then, sizesAt, arrayAt, signatureAt, arraysAt, signaturesAt}
-use Rattle.format.specs.Layout.{sizesOf, arrayPlace, signaturePlace, inOf, tableOf}
+use Rattle.format.specs.Layout.{sizesOf, signaturePlace, inOf, tableOf}
 use Rattle.format.specs.declared.To.{To}
 use Rattle.format.specs.declared.To.the-variants.{At, Fault as Off}
 use Rattle.reading.specs.declared.Answer.{Answer}

@@ -6,6 +6,7 @@ use format::packed_at;
 use format::packed_in;
 use format::place_at;
 use format::word_at;
+use layout::words_at;
 use model::Record;
 use model::Simple;
 use model::Sizes;
@@ -28,6 +29,8 @@ pub fn code_length(kind: u8) -> usize
         22 => 3,
         23 => 3,
         24 => 3,
+        27 => 5,
+        28 => 5,
         32 => 4,
         33 => 3,
         34 => 1,
@@ -214,6 +217,61 @@ fn read_call(t: &[u8], at: usize, z: Sizes) -> Decoded
     )
 }
 
+// The index of a fixed access is tested here, so that no run can stray from it.
+fn read_load_fixed(t: &[u8], at: usize, z: Sizes) -> Decoded
+    requires { ⌜ at + 5 ≤ length (now t) ⌝ }
+    ensures { λ r. ⌜ r ≡ rowAt 27 z (now (t .entry)) at ⌝ }
+{
+    let dest = t[at + 1];
+    let array = t[at + 2];
+    let index = place_at(t, at + 3);
+    let words = words_at(t, z, array);
+    if z.registers <= dest {
+        return Decoded::Bad(4, at);
+    }
+    if z.arrays <= array {
+        return Decoded::Bad(4, at);
+    }
+    if words <= index {
+        return Decoded::Bad(4, at);
+    }
+    Decoded::Got(
+        Record::Do(Simple::LoadFixed {
+            dest,
+            array,
+            index: index as u16,
+        }),
+        at + 5,
+    )
+}
+
+fn read_store_fixed(t: &[u8], at: usize, z: Sizes) -> Decoded
+    requires { ⌜ at + 5 ≤ length (now t) ⌝ }
+    ensures { λ r. ⌜ r ≡ rowAt 28 z (now (t .entry)) at ⌝ }
+{
+    let array = t[at + 1];
+    let index = place_at(t, at + 2);
+    let source = t[at + 4];
+    let words = words_at(t, z, array);
+    if z.arrays <= array {
+        return Decoded::Bad(4, at);
+    }
+    if words <= index {
+        return Decoded::Bad(4, at);
+    }
+    if z.registers <= source {
+        return Decoded::Bad(4, at);
+    }
+    Decoded::Got(
+        Record::Do(Simple::StoreFixed {
+            array,
+            index: index as u16,
+            source,
+        }),
+        at + 5,
+    )
+}
+
 fn read_if(t: &[u8], at: usize, z: Sizes) -> Decoded
     requires { ⌜ at + 4 ≤ length (now t) ⌝ }
     ensures { λ r. ⌜ r ≡ rowAt 32 z (now (t .entry)) at ⌝ }
@@ -291,6 +349,8 @@ fn fields(t: &[u8], at: usize, z: Sizes, kind: u8) -> Decoded
         22 => read_update(t, at, z),
         23 => read_protect(t, at, z),
         24 => read_call(t, at, z),
+        27 => read_load_fixed(t, at, z),
+        28 => read_store_fixed(t, at, z),
         32 => read_if(t, at, z),
         33 => read_else(t, at, z),
         34 => Decoded::Got(Record::Endif, at + 1),

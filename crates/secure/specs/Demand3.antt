@@ -18,7 +18,8 @@ use Rattle.model.specs.Machine.{Ctl, Data, wordsOf, address, Final, final, run,
 use Rattle.model.specs.Demand3.{Agree, SameShown, secure}
 use Rattle.model.specs.declared.Sizes.{Sizes}
 use Rattle.model.specs.declared.Observation.{Observation}
-use Rattle.format.specs.Layout.{sizesOf, wordsFrom, tableOf}
+use Rattle.format.specs.Format.{wordsFrom}
+use Rattle.format.specs.Layout.{sizesOf, tableOf}
 use Rattle.reading.specs.Reading.{readAt}
 use Rattle.reading.specs.Known.{known}
 use Rattle.typing.specs.Check.{checkAt}

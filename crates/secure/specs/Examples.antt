@@ -15,9 +15,9 @@ use Rattle.model.specs.Typing.{typeFrom}
 use Rattle.model.specs.Memory.{offsetIn}
 use Rattle.model.specs.Sites.{scan, homeOf}
 use Rattle.model.specs.Machine.{operate, access, step, run}
-use Rattle.format.specs.Format.{rowAt, decodeAt}
+use Rattle.format.specs.Format.{rowAt, decodeAt, wordsFrom}
 use Rattle.format.specs.Head.{sizesAt, arrayAt, signatureAt, arraysAt, signaturesAt}
-use Rattle.format.specs.Layout.{wordsFrom, recordOf, returnOf}
+use Rattle.format.specs.Layout.{recordOf, returnOf}
 use Rattle.reading.specs.Reading.{allowed, recordAt, callAt, ifWith, whileWith, blockWith, instrAt, blockAt, functionAt, functionsAt, partsAt, readAt}
 use Rattle.typing.specs.Check.{checkAt}
 use Rattle.typing.specs.declared.Verdict.the-variants.{Accepted}

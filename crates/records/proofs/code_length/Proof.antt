@@ -84,7 +84,17 @@ returns-15 c = (simp (c .match .keys15), omega arith)
 -- src/records.rt:19:1
 returns-16 : tie.Need-returns-16
 unfolding codeLength
-returns-16 c =
+returns-16 c = (simp (c .match .keys16), omega arith)
+
+-- src/records.rt:19:1
+returns-17 : tie.Need-returns-17
+unfolding codeLength
+returns-17 c = (simp (c .match .keys17), omega arith)
+
+-- src/records.rt:19:1
+returns-18 : tie.Need-returns-18
+unfolding codeLength
+returns-18 c =
     let r0 = c .match .rest .1 in
     let r1 = c .match .rest .0 .1 in
     let r2 = c .match .rest .0 .0 .1 in
@@ -100,6 +110,8 @@ returns-16 c =
     let r12 = c .match .rest .0 .0 .0 .0 .0 .0 .0 .0 .0 .0 .0 .0 .1 in
     let r13 = c .match .rest .0 .0 .0 .0 .0 .0 .0 .0 .0 .0 .0 .0 .0 .1 in
     let r14 = c .match .rest .0 .0 .0 .0 .0 .0 .0 .0 .0 .0 .0 .0 .0 .0 .1 in
+    let r15 = c .match .rest .0 .0 .0 .0 .0 .0 .0 .0 .0 .0 .0 .0 .0 .0 .0 .1 in
+    let r16 = c .match .rest .0 .0 .0 .0 .0 .0 .0 .0 .0 .0 .0 .0 .0 .0 .0 .0 .1 in
     (simp ne-eqb, omega arith)
 
 pub code-length-spec : {M : Type 1} → statement M
@@ -121,4 +133,6 @@ code-length-spec =
     returns-13
     returns-14
     returns-15
-    returns-16)
+    returns-16
+    returns-17
+    returns-18)

@@ -15,10 +15,12 @@ use Rattle.records.proofs.read_else.Reads as read-else-reads
 use Rattle.records.proofs.read_endwhile.Reads as read-endwhile-reads
 use Rattle.records.proofs.read_if.Reads as read-if-reads
 use Rattle.records.proofs.read_load.Reads as read-load-reads
+use Rattle.records.proofs.read_load_fixed.Reads as read-load-fixed-reads
 use Rattle.records.proofs.read_op.Reads as read-op-reads
 use Rattle.records.proofs.read_protect.Reads as read-protect-reads
 use Rattle.records.proofs.read_select.Reads as read-select-reads
 use Rattle.records.proofs.read_store.Reads as read-store-reads
+use Rattle.records.proofs.read_store_fixed.Reads as read-store-fixed-reads
 use Rattle.records.proofs.read_update.Reads as read-update-reads
 use Rattle.records.proofs.read_while.Reads as read-while-reads
 
@@ -75,16 +77,28 @@ read-call-requires c κs =
     subst (λ (k : ℕ). c .before .before .args .at + codeLength k ≤ length (c .before .before .args .t .now)) (c .match .keys9) (c .before .before .pre .1)
 
 -- src/records.rt:321:15
+read-load-fixed-requires : tie.Need-read-load-fixed-requires
+unfolding codeLength
+read-load-fixed-requires c κs =
+    subst (λ (k : ℕ). c .before .before .args .at + codeLength k ≤ length (c .before .before .args .t .now)) (c .match .keys10) (c .before .before .pre .1)
+
+-- src/records.rt:322:15
+read-store-fixed-requires : tie.Need-read-store-fixed-requires
+unfolding codeLength
+read-store-fixed-requires c κs =
+    subst (λ (k : ℕ). c .before .before .args .at + codeLength k ≤ length (c .before .before .args .t .now)) (c .match .keys11) (c .before .before .pre .1)
+
+-- src/records.rt:321:15
 read-if-requires : tie.Need-read-if-requires
 unfolding codeLength
 read-if-requires c κs =
-    subst (λ (k : ℕ). c .before .before .args .at + codeLength k ≤ length (c .before .before .args .t .now)) (c .match .keys10) (c .before .before .pre .1)
+    subst (λ (k : ℕ). c .before .before .args .at + codeLength k ≤ length (c .before .before .args .t .now)) (c .match .keys12) (c .before .before .pre .1)
 
 -- src/records.rt:322:15
 read-else-requires : tie.Need-read-else-requires
 unfolding codeLength
 read-else-requires c κs =
-    subst (λ (k : ℕ). c .before .before .args .at + codeLength k ≤ length (c .before .before .args .t .now)) (c .match .keys11) (c .before .before .pre .1)
+    subst (λ (k : ℕ). c .before .before .args .at + codeLength k ≤ length (c .before .before .args .t .now)) (c .match .keys13) (c .before .before .pre .1)
 
 -- src/records.rt:323:43
 add-t10 : tie.Need-add-t10
@@ -94,13 +108,13 @@ add-t10 c = search needs
 read-while-requires : tie.Need-read-while-requires
 unfolding codeLength
 read-while-requires c κs =
-    subst (λ (k : ℕ). c .before .before .args .at + codeLength k ≤ length (c .before .before .args .t .now)) (c .match .keys13) (c .before .before .pre .1)
+    subst (λ (k : ℕ). c .before .before .args .at + codeLength k ≤ length (c .before .before .args .t .now)) (c .match .keys15) (c .before .before .pre .1)
 
 -- src/records.rt:325:15
 read-endwhile-requires : tie.Need-read-endwhile-requires
 unfolding codeLength
 read-endwhile-requires c κs =
-    subst (λ (k : ℕ). c .before .before .args .at + codeLength k ≤ length (c .before .before .args .t .now)) (c .match .keys14) (c .before .before .pre .1)
+    subst (λ (k : ℕ). c .before .before .args .at + codeLength k ≤ length (c .before .before .args .t .now)) (c .match .keys16) (c .before .before .pre .1)
 
 -- src/records.rt:326:44
 add-t12 : tie.Need-add-t12
@@ -144,32 +158,40 @@ returns-9 c = rw (c .before .match .keys9) (c .read-call .ensures)
 
 -- src/records.rt:307:1
 returns-10 : tie.Need-returns-10
-returns-10 c = rw (c .before .match .keys10) (c .read-if .ensures)
+returns-10 c = rw (c .before .match .keys10) (c .read-load-fixed .ensures)
 
 -- src/records.rt:307:1
 returns-11 : tie.Need-returns-11
-returns-11 c = rw (c .before .match .keys11) (c .read-else .ensures)
+returns-11 c = rw (c .before .match .keys11) (c .read-store-fixed .ensures)
 
 -- src/records.rt:307:1
 returns-12 : tie.Need-returns-12
-returns-12 c = rw (c .match .keys12) (sym (row-endif (c .before .before .args .z) (c .before .before .args .t .now) (c .before .before .args .at) (c .before .before .pre .0)))
+returns-12 c = rw (c .before .match .keys12) (c .read-if .ensures)
 
 -- src/records.rt:307:1
 returns-13 : tie.Need-returns-13
-returns-13 c = rw (c .before .match .keys13) (c .read-while .ensures)
+returns-13 c = rw (c .before .match .keys13) (c .read-else .ensures)
 
 -- src/records.rt:307:1
 returns-14 : tie.Need-returns-14
-returns-14 c = rw (c .before .match .keys14) (c .read-endwhile .ensures)
+returns-14 c = rw (c .match .keys14) (sym (row-endif (c .before .before .args .z) (c .before .before .args .t .now) (c .before .before .args .at) (c .before .before .pre .0)))
 
 -- src/records.rt:307:1
 returns-15 : tie.Need-returns-15
-returns-15 c = rw (c .match .keys15) (sym (row-return (c .before .before .args .z) (c .before .before .args .t .now) (c .before .before .args .at) (c .before .before .pre .0)))
+returns-15 c = rw (c .before .match .keys15) (c .read-while .ensures)
 
 -- src/records.rt:307:1
 returns-16 : tie.Need-returns-16
+returns-16 c = rw (c .before .match .keys16) (c .read-endwhile .ensures)
+
+-- src/records.rt:307:1
+returns-17 : tie.Need-returns-17
+returns-17 c = rw (c .match .keys17) (sym (row-return (c .before .before .args .z) (c .before .before .args .t .now) (c .before .before .args .at) (c .before .before .pre .0)))
+
+-- src/records.rt:307:1
+returns-18 : tie.Need-returns-18
 unfolding rowAt
-returns-16 c =
+returns-18 c =
     let r0 = c .match .rest .1 in
     let r1 = c .match .rest .0 .1 in
     let r2 = c .match .rest .0 .0 .1 in
@@ -185,6 +207,8 @@ returns-16 c =
     let r12 = c .match .rest .0 .0 .0 .0 .0 .0 .0 .0 .0 .0 .0 .0 .1 in
     let r13 = c .match .rest .0 .0 .0 .0 .0 .0 .0 .0 .0 .0 .0 .0 .0 .1 in
     let r14 = c .match .rest .0 .0 .0 .0 .0 .0 .0 .0 .0 .0 .0 .0 .0 .0 .1 in
+    let r15 = c .match .rest .0 .0 .0 .0 .0 .0 .0 .0 .0 .0 .0 .0 .0 .0 .0 .1 in
+    let r16 = c .match .rest .0 .0 .0 .0 .0 .0 .0 .0 .0 .0 .0 .0 .0 .0 .0 .0 .1 in
     simp ne-eqb
 
 pub fields-spec : {M : Type 1} → statement M
@@ -200,6 +224,8 @@ fields-spec =
     read-update-requires
     read-protect-requires
     read-call-requires
+    read-load-fixed-requires
+    read-store-fixed-requires
     read-if-requires
     read-else-requires
     add-t10
@@ -221,4 +247,6 @@ fields-spec =
     returns-13
     returns-14
     returns-15
-    returns-16)
+    returns-16
+    returns-17
+    returns-18)
