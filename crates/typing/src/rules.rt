@@ -17,8 +17,8 @@ ghost use lib.Dec.{eqb};
 ghost use Rattle.model.specs.Decide.{meets, simpleNumber};
 ghost use Rattle.model.specs.Levels.{sameStatus};
 ghost use Rattle.model.specs.Records.{SimpleFits};
-ghost use Rattle.model.specs.Rules.{written, stored, fenced, updated, protected, after};
-ghost use Rattle.typing.specs.Envs.{viewEnv, Small};
+ghost use Rattle.model.specs.Rules.{written, raised, stored, storedFixed, fenced, updated, protected, after};
+ghost use Rattle.typing.specs.Envs.{levels, viewEnv, Small};
 
 // Register i is public.
 pub(crate) fn is_public(e: Env, i: u8) -> bool
@@ -62,6 +62,12 @@ pub(crate) fn is_met(s: Simple, e: Env) -> bool
         Simple::Init => true,
         Simple::Update { register, sense } => has_status(e, Status::Outdated(register, sense)),
         Simple::Protect { dest, source } => has_status(e, Status::Updated),
+        Simple::LoadFixed { dest, array, index } => true,
+        Simple::StoreFixed {
+            array,
+            index,
+            source,
+        } => true,
     }
 }
 
@@ -92,6 +98,12 @@ pub(crate) fn number_of(s: Simple) -> u8
         Simple::Init => 0,
         Simple::Update { register, sense } => 11,
         Simple::Protect { dest, source } => 11,
+        Simple::LoadFixed { dest, array, index } => 0,
+        Simple::StoreFixed {
+            array,
+            index,
+            source,
+        } => 0,
     }
 }
 
@@ -141,6 +153,32 @@ fn after_load(e: Env, dest: u8, array: u8) -> Env
     written_env(e, dest, larger(1, level(a, array)))
 }
 
+// A fixed place is never left, not even while misspeculating: the array's own level.
+fn after_load_fixed(e: Env, dest: u8, array: u8) -> Env
+    requires { ⌜ dest < 16 ⌝ }
+    ensures { λ r. ⌜ viewEnv r ≡ written (viewEnv e) dest (viewEnv e .arrays array) ⌝ }
+{
+    let a = e.arrays;
+    written_env(e, dest, level(a, array))
+}
+
+// The named array raised to the source's level, beside the others at the levels given.
+fn raised_env(e: Env, others: [u8; 16], array: u8, source: u8) -> Env
+    requires { ⌜ array < 16 ⌝ }
+    ensures { λ r. ⌜ viewEnv r ≡ raised (viewEnv e) (levels others) array source ⌝ }
+{
+    let registers = e.registers;
+    let a = e.arrays;
+    let named = larger(level(a, array), level(registers, source));
+    let arrays = with_level(others, array, named);
+    let status = e.status;
+    Env {
+        status,
+        registers,
+        arrays,
+    }
+}
+
 // A stray write may reach every array.
 fn after_store(z: Sizes, e: Env, array: u8, source: u8) -> Env
     requires { ⌜ Small z × (array < 16) ⌝ }
@@ -149,15 +187,17 @@ fn after_store(z: Sizes, e: Env, array: u8, source: u8) -> Env
     let registers = e.registers;
     let l = level(registers, source);
     let a = e.arrays;
-    let named = larger(level(a, array), l);
     let others = each(Change::Beside(z.arrays, l), a, a);
-    let arrays = with_level(others, array, named);
-    let status = e.status;
-    Env {
-        status,
-        registers,
-        arrays,
-    }
+    raised_env(e, others, array, source)
+}
+
+// A write at a fixed place reaches no other array.
+fn after_store_fixed(e: Env, array: u8, source: u8) -> Env
+    requires { ⌜ array < 16 ⌝ }
+    ensures { λ r. ⌜ viewEnv r ≡ storedFixed (viewEnv e) array source ⌝ }
+{
+    let others = e.arrays;
+    raised_env(e, others, array, source)
 }
 
 fn after_init(e: Env) -> Env
@@ -227,5 +267,11 @@ pub(crate) fn after_simple(z: Sizes, s: Simple, e: Env) -> Env
         Simple::Init => after_init(e),
         Simple::Update { register, sense } => after_update(e),
         Simple::Protect { dest, source } => after_protect(e, dest, source),
+        Simple::LoadFixed { dest, array, index } => after_load_fixed(e, dest, array),
+        Simple::StoreFixed {
+            array,
+            index,
+            source,
+        } => after_store_fixed(e, array, source),
     }
 }

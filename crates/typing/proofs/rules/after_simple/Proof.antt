@@ -8,10 +8,12 @@ use Rattle.typing.proofs.rules.after_simple.Reads as reads
 use Rattle.typing.proofs.rules.after_simple.Lts as lts
 use Rattle.typing.proofs.rules.after_init.Reads as after-init-reads
 use Rattle.typing.proofs.rules.after_load.Reads as after-load-reads
+use Rattle.typing.proofs.rules.after_load_fixed.Reads as after-load-fixed-reads
 use Rattle.typing.proofs.rules.after_op.Reads as after-op-reads
 use Rattle.typing.proofs.rules.after_protect.Reads as after-protect-reads
 use Rattle.typing.proofs.rules.after_select.Reads as after-select-reads
 use Rattle.typing.proofs.rules.after_store.Reads as after-store-reads
+use Rattle.typing.proofs.rules.after_store_fixed.Reads as after-store-fixed-reads
 use Rattle.typing.proofs.rules.after_update.Reads as after-update-reads
 use Rattle.typing.proofs.rules.written_env.Reads as written-env-reads
 
@@ -97,6 +99,28 @@ after-protect-requires c κs =
     let f = subst (SimpleFits (c .before .before .before .args .z .registers) (c .before .before .before .args .z .arrays)) (c .before .s7 .given .1) (c .before .before .before .pre .1) in
     omega (arith, f .0, small .registers)
 
+-- src/rules.rt:272:29
+enum-known-s-8 : tie.Need-enum-known-s-8
+enum-known-s-8 c = search needs
+
+-- src/rules.rt:272:53
+after-load-fixed-requires : tie.Need-after-load-fixed-requires
+after-load-fixed-requires c κs =
+    let small = c .before .before .before .pre .0 in
+    let f = subst (SimpleFits (c .before .before .before .args .z .registers) (c .before .before .before .args .z .arrays)) (c .before .s8 .given .1) (c .before .before .before .pre .1) in
+    omega (arith, f .0, small .registers)
+
+-- src/rules.rt:274:13
+enum-known-s-9 : tie.Need-enum-known-s-9
+enum-known-s-9 c = search needs
+
+-- src/rules.rt:277:14
+after-store-fixed-requires : tie.Need-after-store-fixed-requires
+after-store-fixed-requires c κs =
+    let small = c .before .before .before .pre .0 in
+    let f = subst (SimpleFits (c .before .before .before .args .z .registers) (c .before .before .before .args .z .arrays)) (c .before .s9 .given .1) (c .before .before .before .pre .1) in
+    omega (arith, f .0, small .arrays)
+
 -- src/rules.rt:203:1
 returns : tie.Need-returns
 returns c = simp (c .before .before .s .given .1) (c .written-env .ensures)
@@ -129,6 +153,14 @@ returns-7 c = simp (c .before .before .s6 .given .1) (c .after-update .ensures)
 returns-8 : tie.Need-returns-8
 returns-8 c = simp (c .before .before .s7 .given .1) (c .after-protect .ensures)
 
+-- src/rules.rt:203:1
+returns-9 : tie.Need-returns-9
+returns-9 c = simp (c .before .before .s8 .given .1) (c .after-load-fixed .ensures)
+
+-- src/rules.rt:203:1
+returns-10 : tie.Need-returns-10
+returns-10 c = simp (c .before .before .s9 .given .1) (c .after-store-fixed .ensures)
+
 pub after-simple-spec : {M : Type 1} → statement M
 after-simple-spec =
     tie.close
@@ -149,6 +181,10 @@ after-simple-spec =
     after-update-requires
     enum-known-s-7
     after-protect-requires
+    enum-known-s-8
+    after-load-fixed-requires
+    enum-known-s-9
+    after-store-fixed-requires
     returns
     returns-2
     returns-3
@@ -156,4 +192,6 @@ after-simple-spec =
     returns-5
     returns-6
     returns-7
-    returns-8)
+    returns-8
+    returns-9
+    returns-10)

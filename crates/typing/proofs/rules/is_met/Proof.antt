@@ -54,6 +54,14 @@ enum-known-s-7 c = search needs
 has-status-requires-2 : tie.Need-has-status-requires-2
 has-status-requires-2 c κs = search needs
 
+-- src/rules.rt:68:29
+enum-known-s-8 : tie.Need-enum-known-s-8
+enum-known-s-8 c = search needs
+
+-- src/rules.rt:70:13
+enum-known-s-9 : tie.Need-enum-known-s-9
+enum-known-s-9 c = search needs
+
 -- src/rules.rt:39:1
 returns : tie.Need-returns
 returns c = search needs
@@ -86,6 +94,14 @@ returns-7 c = simp (c .has-status .ensures, c .before .before .s6 .given .1)
 returns-8 : tie.Need-returns-8
 returns-8 c = simp (c .has-status2 .ensures, c .before .before .s7 .given .1)
 
+-- src/rules.rt:39:1
+returns-9 : tie.Need-returns-9
+returns-9 c = simp (c .before .s8 .given .1)
+
+-- src/rules.rt:39:1
+returns-10 : tie.Need-returns-10
+returns-10 c = simp (c .before .s9 .given .1)
+
 pub is-met-spec : {M : Type 1} → statement M
 is-met-spec =
     tie.close
@@ -102,6 +118,8 @@ is-met-spec =
     has-status-requires
     enum-known-s-7
     has-status-requires-2
+    enum-known-s-8
+    enum-known-s-9
     returns
     returns-2
     returns-3
@@ -109,4 +127,6 @@ is-met-spec =
     returns-5
     returns-6
     returns-7
-    returns-8)
+    returns-8
+    returns-9
+    returns-10)

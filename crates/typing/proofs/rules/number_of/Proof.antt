@@ -36,6 +36,14 @@ enum-known-s-6 c = search needs
 enum-known-s-7 : tie.Need-enum-known-s-7
 enum-known-s-7 c = search needs
 
+-- src/rules.rt:101:29
+enum-known-s-8 : tie.Need-enum-known-s-8
+enum-known-s-8 c = search needs
+
+-- src/rules.rt:103:13
+enum-known-s-9 : tie.Need-enum-known-s-9
+enum-known-s-9 c = search needs
+
 -- src/rules.rt:69:1
 returns : tie.Need-returns
 returns c = search needs
@@ -68,6 +76,14 @@ returns-7 c = search needs
 returns-8 : tie.Need-returns-8
 returns-8 c = search needs
 
+-- src/rules.rt:69:1
+returns-9 : tie.Need-returns-9
+returns-9 c = simp (c .before .s8 .given .1)
+
+-- src/rules.rt:69:1
+returns-10 : tie.Need-returns-10
+returns-10 c = simp (c .before .s9 .given .1)
+
 pub number-of-spec : {M : Type 1} → statement M
 number-of-spec =
     tie.close
@@ -80,6 +96,8 @@ number-of-spec =
     enum-told
     enum-known-s-6
     enum-known-s-7
+    enum-known-s-8
+    enum-known-s-9
     returns
     returns-2
     returns-3
@@ -87,4 +105,6 @@ number-of-spec =
     returns-5
     returns-6
     returns-7
-    returns-8)
+    returns-8
+    returns-9
+    returns-10)
