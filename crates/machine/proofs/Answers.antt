@@ -8,7 +8,7 @@ use lib.Dec.{eqb}
 use borrow.Author.Tests.{eqb-true}
 use Rattle.model.specs.Tests.{pick}
 use Rattle.model.specs.declared.Sizes.{Sizes}
-use Rattle.format.specs.Layout.{wordsFrom}
+use Rattle.format.specs.Format.{wordsFrom}
 use Rattle.reading.specs.Reading.{readAt}
 use Rattle.reading.specs.declared.Answer.the-variants.{Reads, Refused as Unread}
 use Rattle.machine.specs.declared.Listed.the-variants.{Good, Wrong}

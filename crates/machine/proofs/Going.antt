@@ -21,7 +21,8 @@ use Rattle.model.specs.declared.Directive.the-variants.{Plain}
 use Rattle.model.specs.declared.Observation.{Observation}
 use Rattle.model.specs.declared.Observation.the-variants.{Nothing, Way, Address}
 use Rattle.model.specs.declared.Record.the-variants.{Call}
-use Rattle.format.specs.Layout.{sizesOf, wordsFrom, recordOf, returnOf, tableWith, tableOf}
+use Rattle.format.specs.Format.{wordsFrom}
+use Rattle.format.specs.Layout.{sizesOf, recordOf, returnOf, tableWith, tableOf}
 use Rattle.reading.specs.Reading.{readAt}
 use Rattle.reading.specs.Known.{known}
 use Rattle.reading.specs.Limits.{read-limits}

@@ -26,6 +26,7 @@ use Rattle.model.specs.declared.Directive.the-variants.{Plain, Branch, Stray, B
 use Rattle.model.specs.declared.Observation.{Observation}
 use Rattle.model.specs.declared.Observation.the-variants.{Nothing, Address}
 use Rattle.model.specs.declared.Sizes.{Sizes}
+use Rattle.model.specs.declared.Simple.{Simple}
 use Rattle.model.specs.declared.Simple.the-variants.{Load, Store}
 use Rattle.model.specs.declared.Record.{Record}
 use Rattle.model.specs.declared.Record.the-variants.{Return}
@@ -38,7 +39,8 @@ use Rattle.machine.specs.declared.State.{State}
 use Rattle.machine.specs.declared.Effect.{Effect}
 use Rattle.machine.specs.declared.Next.{Next}
 use Rattle.machine.specs.declared.Plan.{Plan}
-use Rattle.machine.proofs.Words.{words-first, words-out}
+use Rattle.format.specs.Laws.{words-first}
+use Rattle.machine.proofs.Words.{words-out}
 
 pub picked : {A : Type 0} (b : Bool) (x y : A) → b ≡ true → pick b x y ≡ x
 picked b x y e = ap (λ (c : Bool). pick c x y) e
@@ -83,12 +85,16 @@ plain-no (Branch b) w h = refl
 plain-no (Stray a i) w h = refl
 plain-no (Back q) w h = refl
 
-pub goes-plain : (t : Table) (s : State) (p : Plan) (x : Data) (d : Directive) {n : Next} {e : Effect} {c : Ctl} {m : Bool} → isPlain d ≡ true → Goes p n e Nothing → (ctlNext s n ≡ c) × (n .masked ≡ m)
-    → viewPlan t s p x ≡ onward (plain d (did (flagged (applied t e x) m) Nothing)) c
-goes-plain t s p x d {n} {e} {c} {m} h g k = goes t s p x g k ∙ sym (ap (λ (w : Work). onward w c) (plain-yes d (did (flagged (applied t e x) m) Nothing) h))
+pub goes-plain : (t : Table) (s : State) (p : Plan) (x : Data) (d : Directive) {n : Next} {e : Effect} {o : Observation} {c : Ctl} {m : Bool} → isPlain d ≡ true → Goes p n e o → (ctlNext s n ≡ c) × (n .masked ≡ m)
+    → viewPlan t s p x ≡ onward (plain d (did (flagged (applied t e x) m) o)) c
+goes-plain t s p x d {n} {e} {o} {c} {m} h g k = goes t s p x g k ∙ sym (ap (λ (w : Work). onward w c) (plain-yes d (did (flagged (applied t e x) m) o) h))
 
 pub stops-plain : (t : Table) (s : State) (p : Plan) (x : Data) (d : Directive) (w : Work) (c : Ctl) → isPlain d ≡ false → p .stop ≡ 22 → viewPlan t s p x ≡ onward (plain d w) c
 stops-plain t s p x d w c h e = stops t s p x e refl ∙ sym (ap (λ (v : Work). onward v c) (plain-no d w h))
+
+-- a simple record's work, by its kind
+pub work-of : (t : Table) (d : Directive) (mis : Bool) (x : Data) (c : Ctl) {r s : Simple} → r ≡ s → onward (work t s d mis x) c ≡ onward (work t r d mis x) c
+work-of t d mis x c e = sym (ap (λ (r : Simple). onward (work t r d mis x) c) e)
 
 -- ---- values
 pub not-zero : (b : Bool) → not b ≡ pick b false true

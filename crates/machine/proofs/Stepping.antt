@@ -14,7 +14,8 @@ use Rattle.model.specs.Machine.{Ctl, Data, flagged, Stepped, Stop, Went, step, 
 use Rattle.model.specs.declared.Sizes.{Sizes}
 use Rattle.model.specs.declared.Directive.{Directive}
 use Rattle.model.specs.declared.Observation.{Observation}
-use Rattle.format.specs.Layout.{wordsFrom, tableWith, tableOf}
+use Rattle.format.specs.Format.{wordsFrom}
+use Rattle.format.specs.Layout.{tableWith, tableOf}
 use Rattle.reading.specs.Reading.{readAt}
 use Rattle.reading.specs.Known.{known}
 use Rattle.reading.specs.declared.Answer.the-variants.{Reads}

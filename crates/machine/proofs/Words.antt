@@ -1,7 +1,6 @@
 -- Laws of the arrays' words and where they lie, of a directive list, and of an observation's bytes.
 use Prim.Native.Nat.{ℕ, zero, suc, _+_, _-_, _<_, _≤_}
 use native.Mathlib.Numerals.{sub-one, add-one, add-two, add-three, add-four, add-five}
-use native.Mathlib.Nat.{zero-add}
 use native.Mathlib.Omega.{arith}
 use mathlib.Core.Path.{_≡_, refl, sym, ap, subst, _∙_}
 use mathlib.Core.List.{List, [], _∷_}
@@ -14,8 +13,7 @@ use Rattle.model.specs.Tests.{pick-ind}
 use Rattle.model.specs.Memory.{offsetIn}
 use Rattle.model.specs.declared.Sizes.{Sizes}
 use Rattle.model.specs.declared.Directive.{Directive}
-use Rattle.format.specs.Format.{byte}
-use Rattle.format.specs.Layout.{wordsAt, wordsFrom}
+use Rattle.format.specs.Format.{byte, wordsAt, wordsFrom}
 use Rattle.machine.specs.declared.Told.{Told}
 use Rattle.machine.specs.declared.Told.the-variants.{Got, Bad}
 use Rattle.machine.specs.declared.Listed.the-variants.{Good, Wrong}
@@ -47,16 +45,7 @@ offset-is z t zero b a h k = absurd (h refl)
 offset-is z t (suc n) b zero h k = absurd (k refl)
 offset-is z t (suc n) b (suc a) h k = rw (sub-one (suc n), sub-one (suc a), add-one b)
 
--- the words of one array
-pub words-in : (z : Sizes) (t : List ℕ) (n b a : ℕ) → a < n → getD (wordsFrom z t n b) a 0 ≡ wordsAt z t (b + a)
-unfolding wordsFrom
-words-in z t zero b a l = absurd (omega arith)
-words-in z t (suc n) b zero l = let e : b + 0 ≡ b = omega arith in rw e
-words-in z t (suc n) b (suc a) l = let e : b + suc a ≡ suc b + a = omega arith in rw e (words-in z t n (suc b) a (omega arith))
-
-pub words-first : (z : Sizes) (t : List ℕ) (n a : ℕ) → a < n → getD (wordsFrom z t n 0) a 0 ≡ wordsAt z t a
-words-first z t n a l = words-in z t n 0 a l ∙ ap (wordsAt z t) (zero-add a)
-
+-- past the arrays there are no words
 pub words-out : (z : Sizes) (t : List ℕ) (n b a : ℕ) → n ≤ a → getD (wordsFrom z t n b) a 0 ≡ 0
 unfolding wordsFrom
 words-out z t zero b a l = refl

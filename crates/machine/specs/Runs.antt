@@ -9,7 +9,8 @@ use lib.Dec.{eqb}
 use Rattle.model.specs.Tests.{pick}
 use Rattle.model.specs.Machine.{Ctl, Data, Final, final, run, startCtl}
 use Rattle.model.specs.declared.Sizes.{Sizes}
-use Rattle.format.specs.Layout.{wordsFrom, tableWith}
+use Rattle.format.specs.Format.{wordsFrom}
+use Rattle.format.specs.Layout.{tableWith}
 use Rattle.reading.specs.Reading.{readAt}
 use Rattle.reading.specs.declared.Answer.{Answer}
 use Rattle.reading.specs.declared.Answer.the-variants.{Reads, Refused as Unread}

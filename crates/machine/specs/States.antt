@@ -14,7 +14,7 @@ use Rattle.model.specs.declared.Directive.the-variants.{Plain, Branch, Stray, B
 use Rattle.model.specs.declared.Sizes.{Sizes}
 use Rattle.model.specs.declared.Record.the-variants.{Call}
 use Rattle.format.specs.Layout.{recordOf}
-use Rattle.model.specs.declared.Observation.the-variants.{Nothing}
+use Rattle.model.specs.declared.Observation.{Observation}
 use Rattle.machine.specs.declared.State.{State}
 use Rattle.machine.specs.declared.Effect.{Effect}
 use Rattle.machine.specs.declared.Effect.the-variants.{None, Register, Word}
@@ -82,9 +82,9 @@ arrayed s ps = pick (ltb (s .depth) (length ps)) (set (s .stack) (s .depth) (get
 abbrev pub viewPlan : Table → State → Plan → Data → Stepped
 viewPlan t s p x = pick (eqb (p .stop) 0) (Went (ctlNext s (p .next)) (flagged (applied t (p .effect) x) (p .next .masked)) (p .seen)) (Stop (p .stop))
 
--- a record that takes 60 and goes on at p: what it does to the data, and the flag afterwards
-abbrev pub plainly : Table → Directive → State → ℕ → Effect → Bool → Data → Stepped
-plainly t dir s p e m x = onward (plain dir (did (flagged (applied t e x) m) Nothing)) (to (ctlOf s) p)
+-- a record that takes 60 and goes on at p: what it does to the data, the flag afterwards, what it shows
+abbrev pub plainly : Table → Directive → State → ℕ → Effect → Bool → Observation → Data → Stepped
+plainly t dir s p e m o x = onward (plain dir (did (flagged (applied t e x) m) o)) (to (ctlOf s) p)
 
 -- an effect lies in registers and memory
 abbrev pub Lands : Table → Effect → Type 0

@@ -16,7 +16,7 @@ use Rattle.model.specs.declared.Directive.the-variants.{Plain, Branch, Stray, B
 use Rattle.model.specs.declared.Observation.{Observation}
 use Rattle.model.specs.declared.Observation.the-variants.{Nothing, Way, Address}
 use Rattle.model.specs.declared.Simple.{Simple}
-use Rattle.model.specs.declared.Simple.the-variants.{Const, Op, Select, Load, Store, Init, Update, Protect}
+use Rattle.model.specs.declared.Simple.the-variants.{Const, Op, Select, Load, Store, Init, Update, Protect, LoadFixed, StoreFixed}
 use Rattle.model.specs.declared.Record.{Record}
 use Rattle.model.specs.declared.Record.the-variants.{Do, Call, If, Else, Endif, While, Endwhile, Return}
 
@@ -81,6 +81,8 @@ module _ (t : Table) where
   work-listed Init d mis x = pick-ind WorkListed mis (λ _. (omega arith, omega arith)) (λ _. plain-listed d _ tt)
   work-listed (Update r s) d mis x = plain-listed d _ tt
   work-listed (Protect a s) d mis x = plain-listed d _ tt
+  work-listed (LoadFixed a b i) d mis x = plain-listed d _ tt
+  work-listed (StoreFixed b i s) d mis x = plain-listed d _ tt
 
   pass-listed : (d : Directive) (x : Data) (c : Ctl) → StepListed (pass t d x c)
   pass-listed d x c = onward-listed (plain d (did x Nothing)) c (plain-listed d (did x Nothing) tt)

@@ -11,7 +11,8 @@ use Rattle.model.specs.declared.Sizes.{Sizes}
 use Rattle.model.specs.declared.Directive.{Directive}
 use Rattle.model.specs.declared.Observation.{Observation}
 use Rattle.model.specs.declared.Record.the-variants.{Call}
-use Rattle.format.specs.Layout.{recordOf, wordsFrom, tableWith}
+use Rattle.format.specs.Format.{wordsFrom}
+use Rattle.format.specs.Layout.{recordOf, tableWith}
 use Rattle.machine.specs.declared.State.{State}
 use Rattle.machine.specs.declared.Acted.{Acted}
 use Rattle.machine.specs.declared.Took.{Took}

@@ -21,10 +21,12 @@ ghost use mathlib.Core.List.{List};
 ghost use mathlib.Core.Path.{_≡_};
 ghost use Prim.Native.Nat.{ℕ, _+_, _-_, _*_, _%_, _≤_, _<_};
 ghost use lib.Dec.{eqb, ltb};
-ghost use lib.ListN.{length};
+ghost use lib.ListN.{length, getD};
+ghost use Rattle.format.specs.Format.{wordsFrom};
 ghost use Rattle.format.specs.Layout.{startOf, recordOf, tableWith};
 ghost use Rattle.machine.specs.States.{ctlOf, ctlNext, dataOf, viewPlan, isPlain, plainly, called, wayOf, tops, leaves, markOf, Lands};
-ghost use Rattle.model.specs.Machine.{Data, truth, holds, operate, access, strayed, work, onward, to, fork, right, wrong, pop, back, pass, step};
+ghost use Rattle.model.specs.Machine.{Data, wordsOf, truth, holds, operate, access, strayed, work, onward, to, fork, right, wrong, pop, back, pass, step};
+ghost use Rattle.model.specs.Records.{SimpleReaches};
 ghost use Rattle.model.specs.Sites.{scan, homeOf, markOf as callMark};
 ghost use Rattle.model.specs.Table.{Table};
 ghost use Rattle.model.specs.Tests.{pick};
@@ -80,13 +82,20 @@ fn is_plain(d: Directive) -> bool
     }
 }
 
-// A record that takes 60, observes nothing and goes on at a place.
-fn plain_to(s: State, dir: Directive, place: usize, effect: Effect, masked: bool) -> Plan
-    ensures { λ r. ⌜ ((t : Table) (x : Data) → viewPlan t s r x ≡ plainly t dir s place effect masked x) ⌝ }
+// A record that takes 60 and goes on at a place.
+fn plain_to(
+    s: State,
+    dir: Directive,
+    place: usize,
+    effect: Effect,
+    masked: bool,
+    seen: Observation,
+) -> Plan
+    ensures { λ r. ⌜ ((t : Table) (x : Data) → viewPlan t s r x ≡ plainly t dir s place effect masked seen x) ⌝ }
     ensures lands { λ r. ⌜ ((t : Table) → Lands t effect → Lands t (r .effect)) ⌝ }
 {
     if is_plain(dir) {
-        return go(at_place(s, place, masked), effect, Observation::Nothing);
+        return go(at_place(s, place, masked), effect, seen);
     }
     stop(22)
 }
@@ -253,6 +262,54 @@ fn store(
     }
 }
 
+// A fixed access: the word that the record names, whatever the path.
+fn load_fixed(
+    t: &[u8],
+    z: Sizes,
+    s: State,
+    next: usize,
+    dir: Directive,
+    mem: &[u32],
+    dest: u8,
+    array: u8,
+    index: u16,
+) -> Plan
+    ensures { λ r. ⌜ ((m : List ℕ) → viewPlan (tableWith z (now (t .entry))) s r (dataOf s m (now (mem .entry)))
+        ≡ onward (work (tableWith z (now (t .entry))) (Simple.LoadFixed dest array index) dir (s .mis) (dataOf s m (now (mem .entry)))) (to (ctlOf s) next)) ⌝ }
+    ensures lands { λ r. ⌜ ((t : Table) → Lands t (r .effect)) ⌝ }
+{
+    let v = word_at(t, z, mem, array, index as usize);
+    let masked = s.masked;
+    let seen = Observation::Address(array, index as u32);
+    plain_to(s, dir, next, Effect::Register(dest, v), masked, seen)
+}
+
+fn store_fixed(
+    s: State,
+    next: usize,
+    dir: Directive,
+    regs: &[u32],
+    array: u8,
+    index: u16,
+    source: u8,
+) -> Plan
+    ensures { λ r. ⌜ ((t : Table) (m : List ℕ) → viewPlan t s r (dataOf s (now (regs .entry)) m)
+        ≡ onward (work t (Simple.StoreFixed array index source) dir (s .mis) (dataOf s (now (regs .entry)) m)) (to (ctlOf s) next)) ⌝ }
+    ensures lands { λ r. ⌜ ((t : Table) → index < wordsOf t array → Lands t (r .effect)) ⌝ }
+{
+    let v = get(regs, source as usize);
+    let masked = s.masked;
+    let seen = Observation::Address(array, index as u32);
+    plain_to(
+        s,
+        dir,
+        next,
+        Effect::Word(array, index as usize, v),
+        masked,
+        seen,
+    )
+}
+
 fn init(s: State, next: usize, dir: Directive) -> Plan
     ensures { λ r. ⌜ ((t : Table) (m n : List ℕ) → viewPlan t s r (dataOf s m n) ≡ onward (work t Simple.Init dir (s .mis) (dataOf s m n)) (to (ctlOf s) next)) ⌝ }
     ensures lands { λ r. ⌜ ((t : Table) → Lands t (r .effect)) ⌝ }
@@ -260,27 +317,49 @@ fn init(s: State, next: usize, dir: Directive) -> Plan
     if s.mis {
         return stop(23);
     }
-    plain_to(s, dir, next, Effect::None, false)
+    plain_to(s, dir, next, Effect::None, false, Observation::Nothing)
 }
 
 fn updated(s: State, next: usize, dir: Directive, held: bool) -> Plan
-    ensures { λ r. ⌜ ((t : Table) (x : Data) → viewPlan t s r x ≡ plainly t dir s next Effect.None (pick held (s .masked) true) x) ⌝ }
+    ensures { λ r. ⌜ ((t : Table) (x : Data) → viewPlan t s r x ≡ plainly t dir s next Effect.None (pick held (s .masked) true) Observation.Nothing x) ⌝ }
     ensures lands { λ r. ⌜ ((t : Table) → Lands t (r .effect)) ⌝ }
 {
     if held {
         let masked = s.masked;
-        return plain_to(s, dir, next, Effect::None, masked);
+        return plain_to(s, dir, next, Effect::None, masked, Observation::Nothing);
     }
-    plain_to(s, dir, next, Effect::None, true)
+    plain_to(s, dir, next, Effect::None, true, Observation::Nothing)
 }
 
-// A register is written: the value that a record other than LOAD gives its dest.
+// A register is written: the value that a record other than the loads gives its dest.
 fn write(s: State, next: usize, dir: Directive, dest: u8, v: u32) -> Plan
-    ensures { λ r. ⌜ ((t : Table) (x : Data) → viewPlan t s r x ≡ plainly t dir s next (Effect.Register dest v) (s .masked) x) ⌝ }
+    ensures { λ r. ⌜ ((t : Table) (x : Data) → viewPlan t s r x ≡ plainly t dir s next (Effect.Register dest v) (s .masked) Observation.Nothing x) ⌝ }
     ensures lands { λ r. ⌜ ((t : Table) → Lands t (r .effect)) ⌝ }
 {
     let masked = s.masked;
-    plain_to(s, dir, next, Effect::Register(dest, v), masked)
+    plain_to(
+        s,
+        dir,
+        next,
+        Effect::Register(dest, v),
+        masked,
+        Observation::Nothing,
+    )
+}
+
+// The value that OP gives its dest.
+fn operated(regs: &[u32], op: u8, left: u8, right: u8) -> u32
+    ensures { λ r. ⌜ r ≡ operate op (getD (now (regs .entry)) left 0) (getD (now (regs .entry)) right 0) ⌝ }
+{
+    operation(op, get(regs, left as usize), get(regs, right as usize))
+}
+
+// The value that SELECT gives its dest.
+fn selected(regs: &[u32], cond: u8, yes: u8, no: u8) -> u32
+    ensures { λ r. ⌜ r ≡ pick (truth (getD (now (regs .entry)) cond 0)) (getD (now (regs .entry)) yes 0) (getD (now (regs .entry)) no 0) ⌝ }
+{
+    let c = is_true(get(regs, cond as usize));
+    choose(c, get(regs, yes as usize), get(regs, no as usize))
 }
 
 fn simple(
@@ -293,6 +372,7 @@ fn simple(
     mem: &[u32],
     r: Simple,
 ) -> Plan
+    requires { ⌜ SimpleReaches (wordsFrom z (now t) (z .arrays) 0) r ⌝ }
     ensures { λ p. ⌜ viewPlan (tableWith z (now (t .entry))) s p (dataOf s (now (regs .entry)) (now (mem .entry)))
         ≡ onward (work (tableWith z (now (t .entry))) r dir (s .mis) (dataOf s (now (regs .entry)) (now (mem .entry)))) (to (ctlOf s) next) ⌝ }
     ensures lands { λ p. ⌜ Lands (tableWith z (now (t .entry))) (p .effect) ⌝ }
@@ -304,32 +384,16 @@ fn simple(
             op,
             left,
             right,
-        } => {
-            let v = operation(op, get(regs, left as usize), get(regs, right as usize));
-            write(s, next, dir, dest, v)
-        }
+        } => write(s, next, dir, dest, operated(regs, op, left, right)),
         Simple::Select {
             dest,
             cond,
             yes,
             no,
-        } => {
-            let c = is_true(get(regs, cond as usize));
-            let v = choose(c, get(regs, yes as usize), get(regs, no as usize));
-            write(s, next, dir, dest, v)
+        } => write(s, next, dir, dest, selected(regs, cond, yes, no)),
+        Simple::Load { dest, array, index } => {
+            load(t, z, s, next, dir, regs, mem, dest, array, index)
         }
-        Simple::Load { dest, array, index } => load(
-            t,
-            z,
-            s,
-            next,
-            dir,
-            regs,
-            mem,
-            dest,
-            array,
-            index,
-        ),
         Simple::Store {
             array,
             index,
@@ -345,6 +409,14 @@ fn simple(
             let v = choose(masked, 4294967295, get(regs, source as usize));
             write(s, next, dir, dest, v)
         }
+        Simple::LoadFixed { dest, array, index } => {
+            load_fixed(t, z, s, next, dir, mem, dest, array, index)
+        }
+        Simple::StoreFixed {
+            array,
+            index,
+            source,
+        } => store_fixed(s, next, dir, regs, array, index, source),
     }
 }
 
@@ -571,7 +643,7 @@ fn pass_to(s: State, dir: Directive, place: usize) -> Plan
     ensures lands { λ r. ⌜ ((t : Table) → Lands t (r .effect)) ⌝ }
 {
     let masked = s.masked;
-    plain_to(s, dir, place, Effect::None, masked)
+    plain_to(s, dir, place, Effect::None, masked, Observation::Nothing)
 }
 
 // What the record at the state's place would do under the directive. Where none can be read, RETURN stands for it.

@@ -1,5 +1,5 @@
 use Rattle.machine.proofs.Words.{array-end, stored-in}
-use Rattle.format.specs.Layout.{wordsFrom}
+use Rattle.format.specs.Format.{wordsFrom}
 use borrow.Author.Needs.{needs}
 use Rattle.machine.proofs.memory.store.Statement.{statement}
 use Rattle.machine.proofs.memory.store.Tie as tie

@@ -1,6 +1,7 @@
 use native.Mathlib.Omega.{arith}
 use mathlib.Core.Path.{sym, _∙_}
-use Rattle.machine.proofs.Words.{words-first, words-out}
+use Rattle.format.specs.Laws.{words-first}
+use Rattle.machine.proofs.Words.{words-out}
 use borrow.Author.Needs.{needs}
 use Rattle.machine.proofs.memory.words_of.Statement.{statement}
 use Rattle.machine.proofs.memory.words_of.Tie as tie

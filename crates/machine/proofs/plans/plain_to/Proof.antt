@@ -1,4 +1,3 @@
-use Rattle.model.specs.declared.Observation.the-variants.{Nothing}
 use Rattle.machine.specs.States.{ctlOf, applied}
 use Rattle.model.specs.Machine.{did, flagged, to}
 use mathlib.Core.Path.{sym, _∙_}
@@ -37,7 +36,7 @@ stop-requires c κs = search needs
 returns-2 : tie.Need-returns-2
 returns-2 c =
     let a = c .before .before .before .args in
-    (λ t x. stops-plain t (a .s) (c .stop .result) x (a .dir) (did (flagged (applied t (a .effect) x) (a .masked)) Nothing) (to (ctlOf (a .s)) (a .place)) (sym (c .before .before .is-plain .ensures) ∙ c .before .if1 .left) (c .stop .ensures .0), λ t l. lands t (c .stop .result) (c .stop .ensures .1) tt)
+    (λ t x. stops-plain t (a .s) (c .stop .result) x (a .dir) (did (flagged (applied t (a .effect) x) (a .masked)) (a .seen)) (to (ctlOf (a .s)) (a .place)) (sym (c .before .before .is-plain .ensures) ∙ c .before .if1 .left) (c .stop .ensures .0), λ t l. lands t (c .stop .result) (c .stop .ensures .1) tt)
 
 pub plain-to-spec : {M : Type 1} → statement M
 plain-to-spec =

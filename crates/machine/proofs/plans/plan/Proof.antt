@@ -42,7 +42,10 @@ enum-known-r c = search needs
 
 -- src/plans.rt:606:30
 simple-requires : tie.Need-simple-requires
-simple-requires c κs = search needs
+simple-requires c κs =
+    let a = c .before .before .before .before .before .before .before .before .before .before .args in
+    let t = a .t .now in
+    good (a .z) t (a .s .place) (known (a .z) t (a .s .place) (c .before .before .before .before .before .before .decode .ensures) (c .before .before .before .before .d2 .given .1) (c .before .r .given .1)) .reaches
 
 -- src/plans.rt:607:28
 enum-known-r-2 : tie.Need-enum-known-r-2

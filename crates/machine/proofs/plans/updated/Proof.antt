@@ -1,3 +1,4 @@
+use Rattle.model.specs.declared.Observation.the-variants.{Nothing}
 use mathlib.Core.Path.{sym, ap, _∙_}
 use mathlib.Core.Bool.{Bool, true}
 use Rattle.machine.specs.declared.Effect.the-variants.{None}
@@ -18,7 +19,7 @@ plain-to-requires c κs = search needs
 returns : tie.Need-returns
 returns c =
     let a = c .before .before .args in
-    (λ t x. c .plain-to .ensures .0 t x ∙ ap (λ (b : Bool). plainly t (a .dir) (a .s) (a .next) None b x) (sym (picked (a .held) (a .s .masked) true (c .before .if1 .taken))), λ t. c .plain-to .ensures .1 t tt)
+    (λ t x. c .plain-to .ensures .0 t x ∙ ap (λ (b : Bool). plainly t (a .dir) (a .s) (a .next) None b Nothing x) (sym (picked (a .held) (a .s .masked) true (c .before .if1 .taken))), λ t. c .plain-to .ensures .1 t tt)
 
 -- src/plans.rt:269:5
 plain-to-requires-2 : tie.Need-plain-to-requires-2
@@ -28,7 +29,7 @@ plain-to-requires-2 c κs = search needs
 returns-2 : tie.Need-returns-2
 returns-2 c =
     let a = c .before .before .args in
-    (λ t x. c .plain-to2 .ensures .0 t x ∙ ap (λ (b : Bool). plainly t (a .dir) (a .s) (a .next) None b x) (sym (passed (a .held) (a .s .masked) true (c .before .if1 .left))), λ t. c .plain-to2 .ensures .1 t tt)
+    (λ t x. c .plain-to2 .ensures .0 t x ∙ ap (λ (b : Bool). plainly t (a .dir) (a .s) (a .next) None b Nothing x) (sym (passed (a .held) (a .s .masked) true (c .before .if1 .left))), λ t. c .plain-to2 .ensures .1 t tt)
 
 pub updated-spec : {M : Type 1} → statement M
 updated-spec = tie.close (tie.spec plain-to-requires returns plain-to-requires-2 returns-2)
