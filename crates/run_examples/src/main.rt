@@ -45,7 +45,7 @@ fn run(table: &[u8], list: &[u8], registers: &[u8], memory: &[u8], room: usize) 
     if 16 < count {
         return false;
     }
-    if 64 < words {
+    if 512 < words {
         return false;
     }
     if 64 < room {
@@ -53,7 +53,7 @@ fn run(table: &[u8], list: &[u8], registers: &[u8], memory: &[u8], room: usize) 
     }
     let mut regs = [0u32; 16];
     numbers(registers, 4, &mut regs);
-    let mut mem = [0u32; 64];
+    let mut mem = [0u32; 512];
     numbers(memory, 4, &mut mem);
     let mut obs = [255u8; 64];
     show::run(

@@ -15,6 +15,8 @@
 //! select r0 r1 r2 r3                  ; dest cond yes no
 //! load r0 a0[r1]                      ; dest array[index]
 //! store a0[r1] r0                     ; array[index] source
+//! load r0 a0[7]                       ; LOAD FIXED: the index is a number
+//! store a0[7] r0                      ; STORE FIXED likewise
 //! init
 //! update r0 nonzero                   ; or zero
 //! protect r0 r1                       ; dest source
@@ -79,6 +81,12 @@ struct Assembler {
     inside: bool,
 }
 
+/// The index of an access: in a register, or fixed.
+enum Index {
+    Register(u8),
+    Fixed(u16),
+}
+
 /// The words of one line, taken one by one.
 struct Words<'a> {
     words: Vec<&'a str>,
@@ -110,6 +118,15 @@ impl<'a> Words<'a> {
 
     fn array(&mut self) -> Result<u8, String> {
         self.named('a')
+    }
+
+    /// What stands in an access's brackets.
+    fn index(&mut self) -> Result<Index, String> {
+        let word = self.next()?;
+        Ok(match word.strip_prefix('r') {
+            Some(digits) => Index::Register(number(digits, 0xff)? as u8),
+            None => Index::Fixed(number(word, 0xffff)? as u16),
+        })
     }
 
     fn env(&mut self) -> Result<Packed, String> {
@@ -251,16 +268,23 @@ impl Assembler {
                 yes: words.register()?,
                 no: words.register()?,
             },
-            "load" => Instr::Load {
-                dest: words.register()?,
-                array: words.array()?,
-                index: words.register()?,
-            },
-            "store" => Instr::Store {
-                array: words.array()?,
-                index: words.register()?,
-                source: words.register()?,
-            },
+            "load" => {
+                let dest = words.register()?;
+                let array = words.array()?;
+                match words.index()? {
+                    Index::Register(index) => Instr::Load { dest, array, index },
+                    Index::Fixed(index) => Instr::LoadFixed { dest, array, index },
+                }
+            }
+            "store" => {
+                let array = words.array()?;
+                let index = words.index()?;
+                let source = words.register()?;
+                match index {
+                    Index::Register(index) => Instr::Store { array, index, source },
+                    Index::Fixed(index) => Instr::StoreFixed { array, index, source },
+                }
+            }
             "init" => Instr::Init,
             "update" => Instr::Update {
                 register: words.register()?,
@@ -498,6 +522,10 @@ fn instr_text(instr: &Instr, env: impl Fn(Packed) -> String, at: impl Fn(u16) ->
         Instr::Load { dest, array, index } => format!("load r{} a{}[r{}]", dest, array, index),
         Instr::Store { array, index, source } => {
             format!("store a{}[r{}] r{}", array, index, source)
+        }
+        Instr::LoadFixed { dest, array, index } => format!("load r{} a{}[{}]", dest, array, index),
+        Instr::StoreFixed { array, index, source } => {
+            format!("store a{}[{}] r{}", array, index, source)
         }
         Instr::Init => "init".to_string(),
         Instr::Update { register, sense } => match sense {

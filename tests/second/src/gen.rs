@@ -7,7 +7,7 @@
 //!   place that is due; [`mutated`]: good tables with a few bytes changed;
 //!   [`altered`]: with a few fields changed within their ranges, so that they
 //!   read; [`random`]: bytes by chance.
-//! * [`by_rules`]: tables that type by wrong rules.
+//! * [`by_rules`]: tables that type by wrong rules; [`check_by`]: whether one does.
 //! * [`directives`]: lists that follow the right path, or speculate at every
 //!   chance, or go wrong; [`damaged_directives`]: lists that fail with 16.
 //! * [`check_case`], [`run_case`]: a mixture of all of these.
@@ -17,7 +17,7 @@
 
 use crate::machine::{self, Directive, Due, Machine, MAX_DIRECTIVES};
 use crate::table::{
-    self, kind, record_length, Instr, Packed, Table, ARRAY_LENGTH, MAX_BYTES, MAX_NESTING,
+    self, fault, kind, record_length, Instr, Packed, Table, ARRAY_LENGTH, MAX_BYTES, MAX_NESTING,
     SIGNATURE_LENGTH, SIZES_LENGTH,
 };
 use crate::typing::{Env, Status, PUBLIC, SECRET, TRANSIENT};
@@ -104,10 +104,18 @@ pub enum Rules {
     WriteOutdated,
     /// WHILE goes on with the arriving environment, not L.
     LoopArriving,
+    /// A LOAD FIXED is public whatever the array's level.
+    FixedPublic,
+    /// A LOAD FIXED of r leaves outdated(r, s) as it is.
+    FixedOutdated,
+    /// A STORE FIXED raises nothing.
+    FixedRaisesNone,
+    /// A STORE FIXED gives the array the source's own level, also a lower one.
+    FixedLowers,
 }
 
 impl Rules {
-    pub const WRONG: [Rules; 10] = [
+    pub const WRONG: [Rules; 14] = [
         Rules::LoadPublic,
         Rules::StoreNamed,
         Rules::CallKeeps,
@@ -118,6 +126,10 @@ impl Rules {
         Rules::InitAll,
         Rules::WriteOutdated,
         Rules::LoopArriving,
+        Rules::FixedPublic,
+        Rules::FixedOutdated,
+        Rules::FixedRaisesNone,
+        Rules::FixedLowers,
     ];
 }
 
@@ -143,6 +155,18 @@ impl Model {
 
     fn arrays_within(&self, other: &[u8; 8]) -> bool {
         self.arrays.iter().zip(other).all(|(mine, most)| mine <= most)
+    }
+
+    fn from_packed(packed: Packed) -> Model {
+        let mut model = Model::PUBLIC;
+        if packed.status == 1 {
+            model.status = Status::Updated;
+        }
+        let slots = model.registers.iter_mut().chain(&mut model.arrays);
+        for (slot, level) in slots.enumerate() {
+            *level = (packed.levels >> (2 * slot) & 3) as u8;
+        }
+        model
     }
 
     fn within(&self, other: &Model) -> bool {
@@ -191,6 +215,40 @@ impl Model {
         self.registers[usize::from(register)]
     }
 
+    /// The number that a record's demands on registers and status give if they
+    /// are not met; those of loops, calls and returns are left to the walk.
+    fn demands(&self, instr: &Instr) -> Result<(), u8> {
+        let (holds, number) = match *instr {
+            Instr::Load { index, .. } | Instr::Store { index, .. } => {
+                (self.level(index) == PUBLIC, 10)
+            }
+            Instr::If { register, .. } => (self.level(register) == PUBLIC, 10),
+            Instr::Update { register, sense } => {
+                (self.status == Status::Outdated { register, sense }, 11)
+            }
+            Instr::Protect { .. } => (self.status == Status::Updated, 11),
+            _ => (true, 0),
+        };
+        if holds {
+            Ok(())
+        } else {
+            Err(number)
+        }
+    }
+
+    /// What a CALL leaves.
+    fn called(&self, output: &Model, mark: u8, rules: Rules) -> Model {
+        let mut after = *output;
+        if rules == Rules::CallKeeps {
+            after.registers = self.registers;
+        }
+        after.status = match output.status {
+            Status::Updated if mark == 1 || rules == Rules::CallUpdated => Status::Updated,
+            _ => Status::Unknown,
+        };
+        after
+    }
+
     /// What a record that is no block's or function's boundary leaves, whether
     /// or not its demands are met.
     fn apply(&mut self, instr: &Instr, arrays: usize, rules: Rules) {
@@ -222,6 +280,26 @@ impl Model {
                         }
                     }
                 }
+            }
+            Instr::LoadFixed { dest, array, .. } => {
+                let status = self.status;
+                let level = match rules {
+                    Rules::FixedPublic => PUBLIC,
+                    _ => self.arrays[usize::from(array)],
+                };
+                self.write(dest, level, rules);
+                if rules == Rules::FixedOutdated {
+                    self.status = status;
+                }
+            }
+            Instr::StoreFixed { array, source, .. } => {
+                let level = self.level(source);
+                let held = &mut self.arrays[usize::from(array)];
+                *held = match rules {
+                    Rules::FixedRaisesNone => *held,
+                    Rules::FixedLowers => level,
+                    _ => level.max(*held),
+                };
             }
             Instr::Init => {
                 for level in &mut self.registers {
@@ -289,6 +367,67 @@ pub fn by_rules(rules: Rules, seed: u64) -> Vec<u8> {
     let mut rng = Rng::new(seed);
     let shape = Shape::any(&mut rng);
     Author::new(shape, &mut rng, rules, None).write().0
+}
+
+/// Reads a table and types it by these rules, level by level; gives how many
+/// functions it has. By [`Rules::Right`] that is the checker's answer.
+pub fn check_by(rules: Rules, bytes: &[u8]) -> Result<usize, table::Fault> {
+    let table = table::read(bytes)?;
+    let mut function = 0;
+    let mut env = Model::from_packed(table.input(function));
+    // The open blocks: for a first block how the second starts, for a second one
+    // how the first ended, for a loop its guard, L, and what it goes on with.
+    let mut seconds = Vec::new();
+    let mut firsts = Vec::new();
+    let mut loops = Vec::new();
+    for (place, instr) in table.instrs() {
+        env.demands(&instr).map_err(|number| fault(number, place))?;
+        let need = |holds: bool, number: u8| match holds {
+            true => Ok(()),
+            false => Err(fault(number, place)),
+        };
+        match instr {
+            Instr::If { register, .. } => {
+                seconds.push(env.way(register, 0, rules));
+                env = env.way(register, 1, rules);
+            }
+            Instr::Else { .. } => {
+                firsts.push(env);
+                env = seconds.pop().expect("an IF is open");
+            }
+            Instr::EndIf => env = firsts.pop().expect("an ELSE is open").join(&env),
+            Instr::While { register, env: packed, .. } => {
+                let of = Model::from_packed(packed);
+                need(env.within(&of), 12)?;
+                need(of.level(register) == PUBLIC, 10)?;
+                let from = match rules {
+                    Rules::LoopArriving => env,
+                    _ => of,
+                };
+                loops.push((register, of, from));
+                env = from.way(register, 1, rules);
+            }
+            Instr::EndWhile { .. } => {
+                let (register, of, from) = loops.pop().expect("a WHILE is open");
+                need(rules == Rules::LoopOnce || env.within(&of), 12)?;
+                env = from.way(register, 0, rules);
+            }
+            Instr::Call { function: callee, mark } => {
+                let callee = usize::from(callee);
+                need(env.within(&Model::from_packed(table.input(callee))), 13)?;
+                env = env.called(&Model::from_packed(table.output(callee)), mark, rules);
+            }
+            Instr::Return => {
+                need(env.within(&Model::from_packed(table.output(function))), 14)?;
+                function += 1;
+                if function < table.functions() {
+                    env = Model::from_packed(table.input(function));
+                }
+            }
+            _ => env.apply(&instr, table.arrays(), rules),
+        }
+    }
+    Ok(function)
 }
 
 /// A table that reads and fails with `number` from 10 to 14 at the place given
@@ -567,16 +706,7 @@ impl<'r> Author<'r> {
 
     fn emit_call(&mut self, function: usize, mark: u8) {
         Instr::Call { function: function as u8, mark }.encode(&mut self.bytes);
-        let output = self.outputs[function];
-        if self.rules == Rules::CallKeeps {
-            self.env.arrays = output.arrays;
-        } else {
-            self.env = output;
-        }
-        self.env.status = match output.status {
-            Status::Updated if mark == 1 || self.rules == Rules::CallUpdated => Status::Updated,
-            _ => Status::Unknown,
-        };
+        self.env = self.env.called(&self.outputs[function], mark, self.rules);
     }
 
     // Choices.
@@ -681,9 +811,45 @@ impl<'r> Author<'r> {
     }
 
     fn may_store(&self, array: u8, source: u8) -> bool {
+        self.keeps_ceiling(&Instr::Store { array, index: 0, source })
+    }
+
+    fn may_store_fixed(&self, array: u8, source: u8) -> bool {
+        self.keeps_ceiling(&Instr::StoreFixed { array, index: 0, source })
+    }
+
+    fn keeps_ceiling(&self, instr: &Instr) -> bool {
         let mut after = self.env;
-        after.apply(&Instr::Store { array, index: 0, source }, self.words.len(), self.rules);
+        after.apply(instr, self.words.len(), self.rules);
         after.arrays_within(&self.ceiling)
+    }
+
+    /// An index that is in range, often the first or the last.
+    fn fixed_index(&mut self, array: u8) -> u16 {
+        let words = self.words[usize::from(array)];
+        match self.rng.below(8) {
+            0 => 0,
+            1 => (words - 1) as u16,
+            _ => self.rng.below(words) as u16,
+        }
+    }
+
+    /// An array such as the test asks for.
+    fn array_such(&mut self, test: impl Fn(&Self, u8) -> bool) -> Option<u8> {
+        let first = self.array()?;
+        let arrays = self.words.len() as u8;
+        (0..arrays).map(|step| (first + step) % arrays).find(|&array| test(self, array))
+    }
+
+    /// A public array half of the time that there is one, else any.
+    fn rather_public_array(&mut self) -> Option<u8> {
+        if self.rng.chance(1, 2) {
+            let public = |author: &Self, array| author.env.arrays[usize::from(array)] == PUBLIC;
+            if let Some(array) = self.array_such(public) {
+                return Some(array);
+            }
+        }
+        self.array()
     }
 
     // Phrases.
@@ -697,8 +863,11 @@ impl<'r> Author<'r> {
         if self.rng.chance(1, 8) && self.try_spoil() {
             return;
         }
+        if self.rules != Rules::Right && self.rng.chance(1, 4) && self.telling().is_some() {
+            return;
+        }
         // A phrase that finds no register or array writes nothing.
-        let _ = match self.rng.below(100) {
+        let _ = match self.rng.below(122) {
             0..=6 => self.constant(),
             7..=20 => self.operation(),
             21..=24 => self.selection(),
@@ -718,8 +887,25 @@ impl<'r> Author<'r> {
             72..=80 => self.call(),
             81..=89 => self.branch(),
             90..=97 => self.repeat(),
-            _ => self.tower(),
+            98 | 99 => self.tower(),
+            100..=109 => self.load_fixed(),
+            110..=116 => self.store_fixed(),
+            _ => self.spilled(),
         };
+    }
+
+    /// A phrase that shows what some of the wrong rules let out.
+    fn telling(&mut self) -> Option<()> {
+        match self.rules {
+            Rules::StoreNamed => self.spilled(),
+            Rules::FixedPublic => self.load_fixed(),
+            Rules::FixedRaisesNone | Rules::FixedLowers => self.store_fixed(),
+            Rules::FixedOutdated => {
+                self.update();
+                self.guarded()
+            }
+            _ => None,
+        }
     }
 
     fn block(&mut self, most: usize) {
@@ -775,6 +961,94 @@ impl<'r> Author<'r> {
         Some(())
     }
 
+    /// LOAD FIXED, also of the register that the flag is outdated by; a public
+    /// result is mostly used as an index or guard.
+    fn load_fixed(&mut self) -> Option<()> {
+        let array = self.rather_public_array()?;
+        let index = self.fixed_index(array);
+        let dest = match self.env.status {
+            Status::Outdated { register, .. }
+                if self.held >> register & 1 == 0 && self.rng.chance(1, 3) =>
+            {
+                register
+            }
+            _ => self.free()?,
+        };
+        self.emit(Instr::LoadFixed { dest, array, index });
+        self.freshen(1, 4);
+        if self.env.status == Status::Updated && self.rng.chance(1, 4) {
+            self.emit(Instr::Protect { dest, source: dest });
+        }
+        self.expose(dest);
+        Some(())
+    }
+
+    /// STORE FIXED of any level, and at times a LOAD FIXED of that array.
+    fn store_fixed(&mut self) -> Option<()> {
+        let array = self.rather_public_array()?;
+        let index = self.fixed_index(array);
+        let source = self.such(|author, register| author.may_store_fixed(array, register))?;
+        self.emit(Instr::StoreFixed { array, index, source });
+        if self.rng.chance(1, 3) {
+            let dest = self.free()?;
+            let index = match self.rng.below(2) {
+                0 => index,
+                _ => self.fixed_index(array),
+            };
+            self.emit(Instr::LoadFixed { dest, array, index });
+            self.expose(dest);
+        }
+        Some(())
+    }
+
+    /// A STORE that strays on the wrong way through its bounds check, and after
+    /// it LOADs FIXED of arrays that it may have gone to.
+    fn spilled(&mut self) -> Option<()> {
+        if self.depth == MAX_NESTING {
+            return None;
+        }
+        let array = self.array()?;
+        let words = self.words[usize::from(array)] as u32;
+        let index = self.free()?;
+        let bound = self.free_but(index)?;
+        self.freshen(1, 2);
+        let value = words.saturating_add(self.rng.word());
+        self.emit(Instr::Const { dest: index, value });
+        self.emit(Instr::Const { dest: bound, value: words });
+        self.emit(Instr::Op { dest: bound, op: 6, left: index, right: bound });
+        let mut branching = self.open_if(bound);
+        self.freshen(1, 2);
+        let secret = self.such(|author, register| {
+            author.env.level(register) == SECRET && author.may_store(array, register)
+        });
+        let source = match secret {
+            Some(source) => Some(source),
+            None => self.such(|author, register| author.may_store(array, register)),
+        };
+        if let Some(source) = source {
+            self.emit(Instr::Store { array, index, source });
+        }
+        for _ in 0..self.rng.between(1, 2) {
+            let public =
+                |author: &Self, of| of != array && author.env.arrays[usize::from(of)] == PUBLIC;
+            let from = match self.array_such(public) {
+                Some(of) => Some(of),
+                None => self.array(),
+            };
+            if let (Some(array), Some(dest)) = (from, self.free()) {
+                let index = self.fixed_index(array);
+                self.emit(Instr::LoadFixed { dest, array, index });
+                self.expose(dest);
+            }
+        }
+        self.block(1);
+        self.turn(&mut branching);
+        self.freshen(2, 3);
+        self.block(1);
+        self.close_if(branching);
+        Some(())
+    }
+
     fn protection(&mut self) -> Option<()> {
         if self.env.status == Status::Updated {
             let dest = self.free()?;
@@ -805,6 +1079,14 @@ impl<'r> Author<'r> {
         self.emit(Instr::Const { dest: bound, value: words });
         self.emit(Instr::Op { dest: bound, op: 6, left: index, right: bound });
         let mut branching = self.open_if(bound);
+        let often = if self.rules == Rules::FixedOutdated { 4 } else { 1 };
+        if self.rng.chance(often, 8) {
+            // The flag's register is written: no UPDATE may follow.
+            if let Some(array) = self.rather_public_array() {
+                let index = self.fixed_index(array);
+                self.emit(Instr::LoadFixed { dest: bound, array, index });
+            }
+        }
         self.freshen(2, 3);
         if self.rng.chance(2, 3) {
             if let Some(dest) = self.free() {
@@ -1136,13 +1418,25 @@ impl<'r> Author<'r> {
 
     /// A register that is not public, made so if there is none.
     fn not_public(&mut self) -> Option<u8> {
-        if let Some(register) = self.such(|author, register| author.env.level(register) != PUBLIC) {
-            return Some(register);
+        if self.rng.chance(3, 4) {
+            let hidden = self.such(|author, register| author.env.level(register) != PUBLIC);
+            if hidden.is_some() {
+                return hidden;
+            }
         }
         let array = self.array()?;
         let dest = self.free()?;
-        self.emit(Instr::Const { dest, value: 0 });
-        self.emit(Instr::Load { dest, array, index: dest });
+        let hidden = |author: &Self, array| author.env.arrays[usize::from(array)] != PUBLIC;
+        match self.array_such(hidden) {
+            Some(array) if self.rng.chance(1, 2) => {
+                let index = self.fixed_index(array);
+                self.emit(Instr::LoadFixed { dest, array, index });
+            }
+            _ => {
+                self.emit(Instr::Const { dest, value: 0 });
+                self.emit(Instr::Load { dest, array, index: dest });
+            }
+        }
         Some(dest)
     }
 
@@ -1188,6 +1482,18 @@ impl<'r> Author<'r> {
             let source = self.any();
             self.emit(Instr::Protect { dest, source });
             return Some(place);
+        }
+        if let Status::Outdated { register, sense } = self.env.status {
+            if self.held >> register & 1 == 0 && self.rng.chance(1, 3) {
+                // Written by a LOAD FIXED in between.
+                if let Some(array) = self.array() {
+                    let index = self.fixed_index(array);
+                    self.emit(Instr::LoadFixed { dest: register, array, index });
+                    let place = self.bytes.len();
+                    self.emit(Instr::Update { register, sense });
+                    return Some(place);
+                }
+            }
         }
         let (register, sense) = match self.env.status {
             // The other sense, or another register.
@@ -1236,14 +1542,35 @@ impl<'r> Author<'r> {
             return Some(place);
         }
         let array = self.array()?;
+        if self.rng.chance(1, 3) {
+            // A STORE FIXED that raises the array above L.
+            let held = of.arrays[usize::from(array)];
+            let higher = |_: &Self, source| of.level(source) > held;
+            let source = self.such(higher)?;
+            let index = self.fixed_index(array);
+            let looping = self.open_while(register, of);
+            self.emit(Instr::StoreFixed { array, index, source });
+            if of.status == Status::Updated {
+                self.freshen(1, 1);
+            }
+            let place = self.bytes.len();
+            self.close_while(looping);
+            return Some(place);
+        }
         let dest = self.free_but(register)?;
         of.registers[usize::from(dest)] = self.env.level(dest);
         if self.env.level(dest) != PUBLIC {
             return None;
         }
+        let fixed = of.arrays[usize::from(array)] > PUBLIC && self.rng.chance(1, 2);
         let looping = self.open_while(register, of);
-        self.emit(Instr::Const { dest, value: 0 });
-        self.emit(Instr::Load { dest, array, index: dest });
+        if fixed {
+            let index = self.fixed_index(array);
+            self.emit(Instr::LoadFixed { dest, array, index });
+        } else {
+            self.emit(Instr::Const { dest, value: 0 });
+            self.emit(Instr::Load { dest, array, index: dest });
+        }
         if of.status == Status::Updated {
             self.freshen(1, 1);
         }
@@ -1301,9 +1628,41 @@ fn set16(bytes: &mut [u8], at: usize, value: u16) {
     bytes[at..at + 2].copy_from_slice(&value.to_le_bytes());
 }
 
+/// Words of an array, by the table's bytes.
+fn words_of(bytes: &[u8], array: u8) -> u16 {
+    let at = SIZES_LENGTH + usize::from(array) * ARRAY_LENGTH;
+    u16::from_le_bytes([bytes[at + 1], bytes[at + 2]])
+}
+
+/// An index that is not below the array's words.
+fn no_index(bytes: &[u8], array: u8, rng: &mut Rng) -> u16 {
+    let words = words_of(bytes, array);
+    match rng.below(8) {
+        0..=3 => words,
+        4 => words.saturating_add(1),
+        5 => u16::MAX,
+        // The low byte alone would do.
+        6 => words.max(256) & 0xff00 | 0x8000,
+        _ => rng.between(usize::from(words), usize::from(u16::MAX)) as u16,
+    }
+}
+
 fn damage(bytes: &mut Vec<u8>, number: u8, rng: &mut Rng) -> Option<usize> {
     let all = records(bytes);
-    let (place, kind) = rng.pick(&all);
+    let (mut place, mut kind) = rng.pick(&all);
+    if number == 4 && rng.chance(1, 6) {
+        // Rather an access at a fixed place.
+        let fixed: Vec<(usize, u8)> = all
+            .iter()
+            .copied()
+            .filter(|&(_, kind)| matches!(kind, kind::LOAD_FIXED | kind::STORE_FIXED))
+            .collect();
+        if !fixed.is_empty() {
+            let (at, of) = rng.pick(&fixed);
+            place = at;
+            kind = of;
+        }
+    }
     let (registers, arrays, functions) = (bytes[1], bytes[2], bytes[3]);
     // A number that is out of range when all under `end` are in range.
     let over = |rng: &mut Rng, end: u8| match rng.below(2) {
@@ -1359,6 +1718,24 @@ fn damage(bytes: &mut Vec<u8>, number: u8, rng: &mut Rng) -> Option<usize> {
                 kind::STORE => match rng.between(1, 3) {
                     1 => (1, over(rng, arrays)),
                     at => (at, over(rng, registers)),
+                },
+                kind::LOAD_FIXED => match rng.below(4) {
+                    0 => (1, over(rng, registers)),
+                    1 => (2, over(rng, arrays)),
+                    _ => {
+                        let index = no_index(bytes, bytes[place + 2], rng);
+                        set16(bytes, place + 3, index);
+                        return Some(place);
+                    }
+                },
+                kind::STORE_FIXED => match rng.below(4) {
+                    0 => (1, over(rng, arrays)),
+                    1 => (4, over(rng, registers)),
+                    _ => {
+                        let index = no_index(bytes, bytes[place + 1], rng);
+                        set16(bytes, place + 2, index);
+                        return Some(place);
+                    }
                 },
                 kind::UPDATE => match rng.below(2) {
                     0 => (1, over(rng, registers)),
@@ -1465,8 +1842,10 @@ fn wrong_kind(bytes: &[u8], place: usize, rng: &mut Rng) -> u8 {
     ];
     let code = table::read(bytes).map_or(0, |table| table.code());
     loop {
-        let kind = match rng.below(3) {
+        let kind = match rng.below(6) {
             0 => rng.byte(),
+            // Next to known ones.
+            1 => rng.pick(&[0x00, 0x04, 0x0f, 0x19, 0x1a, 0x1d, 0x1f, 0x26]),
             _ => rng.pick(&known),
         };
         if record_length(kind).is_none() {
@@ -1540,7 +1919,10 @@ pub fn mutated(seed: u64) -> Vec<u8> {
                 let at = rng.below(bytes.len().min(60));
                 bytes[at] ^= 1 << rng.below(8);
             }
-            7 => bytes[at] = rng.pick(&[0x10, 0x13, 0x15, 0x16, 0x17, 0x18, 0x20, 0x23, 0x25]),
+            7 => {
+                bytes[at] =
+                    rng.pick(&[0x10, 0x13, 0x15, 0x16, 0x17, 0x18, 0x1b, 0x1c, 0x20, 0x23, 0x25]);
+            }
             8 => {
                 for _ in 0..rng.between(1, 4) {
                     bytes.push(rng.pick(&[kind::INIT, kind::RETURN, 0]));
@@ -1581,6 +1963,7 @@ pub fn random(seed: u64) -> Vec<u8> {
     }
     for _ in 0..rng.below(40) {
         let byte = match rng.below(4) {
+            0 if rng.chance(1, 4) => rng.pick(&[kind::LOAD_FIXED, kind::STORE_FIXED]),
             0 => rng.between(0x10, 0x18) as u8,
             1 => rng.between(0x20, 0x25) as u8,
             2 => (bytes.len() + rng.below(16)) as u8,
@@ -1628,10 +2011,40 @@ fn alter(bytes: &mut [u8], place: usize, rng: &mut Rng) {
             }
         }
         kind::CONST => bytes[place + 1] = register,
+        kind::OP if arrays > 0 && rng.chance(1, 6) => {
+            let fixed = random_fixed(bytes, rng);
+            bytes[place..place + 5].copy_from_slice(&fixed);
+        }
         kind::OP => match rng.between(1, 4) {
             2 => bytes[place + 2] = rng.below(8) as u8,
             at => bytes[place + at] = register,
         },
+        kind::LOAD_FIXED | kind::STORE_FIXED => {
+            // Where the array, the index and the register are.
+            let (of, index, at) = match bytes[place] {
+                kind::LOAD_FIXED => (2, 3, 1),
+                _ => (1, 2, 4),
+            };
+            match rng.below(4) {
+                0 => bytes[place + at] = register,
+                1 => {
+                    let array = rng.below(arrays) as u8;
+                    let words = words_of(bytes, array);
+                    let asked =
+                        u16::from_le_bytes([bytes[place + index], bytes[place + index + 1]]);
+                    bytes[place + of] = array;
+                    set16(bytes, place + index, asked % words);
+                }
+                2 => {
+                    let words = words_of(bytes, bytes[place + of]);
+                    set16(bytes, place + index, rng.below(usize::from(words)) as u16);
+                }
+                _ => {
+                    let fixed = random_fixed(bytes, rng);
+                    bytes[place..place + 5].copy_from_slice(&fixed);
+                }
+            }
+        }
         kind::SELECT => bytes[place + rng.between(1, 4)] = register,
         kind::LOAD | kind::STORE => {
             let of = match bytes[place] {
@@ -1673,6 +2086,18 @@ fn alter(bytes: &mut [u8], place: usize, rng: &mut Rng) {
             _ => alter_level(bytes, place + 4, rng),
         },
         _ => {}
+    }
+}
+
+/// The record of some access at a fixed place; the table has an array.
+fn random_fixed(bytes: &[u8], rng: &mut Rng) -> [u8; 5] {
+    let register = rng.below(usize::from(bytes[1])) as u8;
+    let array = rng.below(usize::from(bytes[2])) as u8;
+    let [a, b] = (rng.below(usize::from(words_of(bytes, array))) as u16).to_le_bytes();
+    if rng.chance(1, 2) {
+        [kind::LOAD_FIXED, register, array, a, b]
+    } else {
+        [kind::STORE_FIXED, array, a, b, register]
     }
 }
 
@@ -1765,6 +2190,15 @@ fn real_word(table: &Table<'_>, rng: &mut Rng) -> Directive {
     Directive::Stray { array: array as u8, index: rng.below(table.words(array)) as u16 }
 }
 
+/// The words that LOADs FIXED read, after their places.
+fn fixed_words(table: &Table<'_>) -> Vec<(usize, Directive)> {
+    let word = |(place, instr)| match instr {
+        Instr::LoadFixed { array, index, .. } => Some((place, Directive::Stray { array, index })),
+        _ => None,
+    };
+    table.instrs().filter_map(word).collect()
+}
+
 /// A directive that the run cannot go on with (most of the time).
 fn noise(table: &Table<'_>, due: &Due, rng: &mut Rng) -> Directive {
     let word = rng.next() as u16;
@@ -1775,7 +2209,7 @@ fn noise(table: &Table<'_>, due: &Due, rng: &mut Rng) -> Directive {
         3 => Directive::Return { place: word % 200 },
         _ => match due {
             // "names no such word or no such return place"
-            Due::Stray => {
+            Due::Stray { .. } => {
                 let array = rng.below(table.arrays());
                 match rng.below(3) {
                     0 => Directive::Stray { array: table.arrays() as u8, index: 0 },
@@ -1804,6 +2238,8 @@ fn noise(table: &Table<'_>, due: &Due, rng: &mut Rng) -> Directive {
                 };
                 Directive::Return { place: place as u16 }
             }
+            // A stray access where none can be.
+            Due::Plain if table.arrays() > 0 && rng.chance(1, 2) => real_word(table, rng),
             _ => Directive::Plain,
         },
     }
@@ -1844,6 +2280,7 @@ pub fn write_directives(
     let mut machine = Machine::new(table);
     let mut written = Written::default();
     let mut list = Vec::new();
+    let mut fixed = None;
     let mut room = [0; 6];
     for _ in 0..style.steps {
         if list.len() + 4 > MAX_DIRECTIVES {
@@ -1856,7 +2293,20 @@ pub fn write_directives(
             // A directive is still needed, or the list ends first.
             Due::Stuck | Due::Plain => Directive::Plain,
             Due::Branch { right } => Directive::Branch { way: right != wrong },
-            Due::Stray => real_word(table, rng),
+            // A STORE rather goes where a LOAD FIXED reads.
+            Due::Stray { store: true } if rng.chance(3, 4) => {
+                let read = fixed.get_or_insert_with(|| fixed_words(table));
+                let after = read.iter().position(|&(place, _)| place > machine.place());
+                match (after, read.len()) {
+                    (_, 0) => real_word(table, rng),
+                    // One of the next, or any.
+                    (Some(at), all) if rng.chance(2, 3) => {
+                        read[rng.between(at, all.min(at + 2) - 1)].1
+                    }
+                    _ => rng.pick(read).1,
+                }
+            }
+            Due::Stray { .. } => real_word(table, rng),
             Due::Return { top, function } => {
                 let sites: Vec<u16> = machine
                     .sites()
@@ -1878,7 +2328,7 @@ pub fn write_directives(
         };
         // More often where a wrong name, and not only a wrong kind, is possible.
         let often = match due {
-            Due::Stray | Due::Return { .. } => 4,
+            Due::Stray { .. } | Due::Return { .. } => 4,
             _ => 1,
         };
         if rng.chance(often * style.noise, 1024) {
@@ -1896,7 +2346,7 @@ pub fn write_directives(
             (Due::Return { top, .. }, Directive::Return { place }) if top != Some(place) => {
                 written.wrong_returns += 1;
             }
-            (Due::Stray, _) => written.strays += 1,
+            (Due::Stray { .. }, _) => written.strays += 1,
             _ => {}
         }
     }

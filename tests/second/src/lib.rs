@@ -12,7 +12,10 @@
 //! * [`pairs`]: two runs with different secrets.
 //! * [`text`]: cases and results as lines.
 //!
-//! Words of 01 stand in quotation marks in the comments.
+//! Order 1 of `02-change-requests.md` (02) is built too: LOAD FIXED and STORE
+//! FIXED, kinds 1B and 1C.
+//!
+//! Words of 01 and 02 stand in quotation marks in the comments.
 
 #![forbid(unsafe_code)]
 

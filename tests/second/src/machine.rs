@@ -146,7 +146,9 @@ pub(crate) enum Due {
     Branch {
         right: bool,
     },
-    Stray,
+    Stray {
+        store: bool,
+    },
     Return {
         top: Option<u16>,
         function: usize,
@@ -273,6 +275,25 @@ impl<'a> Machine<'a> {
                 self.place = next;
                 return Ok(6);
             }
+            // 02, order 1: "Both take the plain directive and observe the
+            // address", misspeculating or not; the reading has seen that the
+            // index is in range.
+            Instr::LoadFixed { dest, array, index } => {
+                plain(directive)?;
+                saw_address(room, array, u32::from(index))?;
+                let word = self.bases[usize::from(array)] + usize::from(index);
+                registers[usize::from(dest)] = memory[word];
+                self.place = next;
+                return Ok(6);
+            }
+            Instr::StoreFixed { array, index, source } => {
+                plain(directive)?;
+                saw_address(room, array, u32::from(index))?;
+                let word = self.bases[usize::from(array)] + usize::from(index);
+                memory[word] = registers[usize::from(source)];
+                self.place = next;
+                return Ok(6);
+            }
             Instr::Init => {
                 if self.misspeculating {
                     return Err(23);
@@ -369,6 +390,10 @@ impl<'a> Machine<'a> {
         }
     }
 
+    pub fn place(&self) -> usize {
+        self.place
+    }
+
     /// How many return places are on the stack.
     pub fn depth(&self) -> usize {
         self.depth
@@ -388,7 +413,7 @@ impl<'a> Machine<'a> {
                 if (registers[usize::from(index)] as usize) < self.words(array) {
                     Due::Plain
                 } else if self.misspeculating {
-                    Due::Stray
+                    Due::Stray { store: matches!(instr, Instr::Store { .. }) }
                 } else {
                     Due::Stuck
                 }
@@ -413,13 +438,20 @@ impl<'a> Machine<'a> {
     }
 }
 
+/// 22 for all but 60.
+#[inline]
+fn plain(directive: Directive) -> Result<(), u8> {
+    match directive {
+        Directive::Plain => Ok(()),
+        _ => Err(22),
+    }
+}
+
 /// A record that takes 60 and observes nothing: 22, then 26.
 #[inline]
 fn quiet(directive: Directive, room: &mut [u8]) -> Result<(), u8> {
-    match directive {
-        Directive::Plain => saw_nothing(room),
-        _ => Err(22),
-    }
+    plain(directive)?;
+    saw_nothing(room)
 }
 
 /// A branch: the way the directive names. 22, then 26; "71 branch, 1 byte (1 if

@@ -29,6 +29,8 @@ pub mod kind {
     pub const UPDATE: u8 = 0x16;
     pub const PROTECT: u8 = 0x17;
     pub const CALL: u8 = 0x18;
+    pub const LOAD_FIXED: u8 = 0x1b;
+    pub const STORE_FIXED: u8 = 0x1c;
     pub const IF: u8 = 0x20;
     pub const ELSE: u8 = 0x21;
     pub const ENDIF: u8 = 0x22;
@@ -58,6 +60,7 @@ pub fn record_length(kind: u8) -> Option<usize> {
         kind::INIT => 1,
         kind::UPDATE | kind::PROTECT => 3,
         kind::CALL => CALL_LENGTH,
+        kind::LOAD_FIXED | kind::STORE_FIXED => 5,
         kind::IF => 4,
         kind::ELSE => ELSE_LENGTH,
         kind::ENDIF => ENDIF_LENGTH,
@@ -130,6 +133,8 @@ pub enum Instr {
     Update { register: u8, sense: u8 },
     Protect { dest: u8, source: u8 },
     Call { function: u8, mark: u8 },
+    LoadFixed { dest: u8, array: u8, index: u16 },
+    StoreFixed { array: u8, index: u16, source: u8 },
     If { register: u8, else_place: u16 },
     Else { endif_place: u16 },
     EndIf,
@@ -185,6 +190,14 @@ impl Instr {
                 let [function, mark] = take(body)?;
                 (Instr::Call { function, mark }, CALL_LENGTH)
             }
+            kind::LOAD_FIXED => {
+                let [dest, array, a, b] = take(body)?;
+                (Instr::LoadFixed { dest, array, index: u16::from_le_bytes([a, b]) }, 5)
+            }
+            kind::STORE_FIXED => {
+                let [array, a, b, source] = take(body)?;
+                (Instr::StoreFixed { array, index: u16::from_le_bytes([a, b]), source }, 5)
+            }
             kind::IF => {
                 let [register, a, b] = take(body)?;
                 let else_place = u16::from_le_bytes([a, b]);
@@ -238,6 +251,14 @@ impl Instr {
             }
             Instr::Call { function, mark } => {
                 out.extend_from_slice(&[kind::CALL, function, mark]);
+            }
+            Instr::LoadFixed { dest, array, index } => {
+                let [a, b] = index.to_le_bytes();
+                out.extend_from_slice(&[kind::LOAD_FIXED, dest, array, a, b]);
+            }
+            Instr::StoreFixed { array, index, source } => {
+                let [a, b] = index.to_le_bytes();
+                out.extend_from_slice(&[kind::STORE_FIXED, array, a, b, source]);
             }
             Instr::If { register, else_place } => {
                 out.extend_from_slice(&[kind::IF, register]);
@@ -456,6 +477,11 @@ fn read_function(
     let bytes = table.bytes;
     let register = |number: u8| number < table.registers;
     let array = |number: u8| number < table.arrays;
+    // 02, order 1: "index not below the array's words, 4"; only an array that
+    // there is has words.
+    let word = |number: u8, a: u8, b: u8| {
+        array(number) && usize::from(u16::from_le_bytes([a, b])) < table.words(usize::from(number))
+    };
     let mut open = [Open::Function; MAX_NESTING + 1];
     let mut depth = 0;
     let mut place = first;
@@ -518,6 +544,16 @@ fn read_function(
                 need(!misplaced, 5)?;
                 need(usize::from(callee) < function, 7)?;
                 CALL_LENGTH
+            }
+            kind::LOAD_FIXED => {
+                let [dest, of, a, b] = take(body).ok_or_else(cut)?;
+                need(register(dest) & word(of, a, b), 4)?;
+                5
+            }
+            kind::STORE_FIXED => {
+                let [of, a, b, source] = take(body).ok_or_else(cut)?;
+                need(word(of, a, b) & register(source), 4)?;
+                5
             }
             kind::IF => {
                 let [of, a, b] = take(body).ok_or_else(cut)?;

@@ -227,6 +227,18 @@ impl Env {
                     self.levels |= (slots & LOW) << 32;
                 }
             }
+            // 02, order 1: "LOAD FIXED gives dest the array's own level"; no stray
+            // access can put another array's word there.
+            Instr::LoadFixed { dest, array, .. } => {
+                let bits = self.get(array_slot(array));
+                self.write(dest, bits);
+            }
+            // "STORE FIXED raises only the named array as STORE does and no
+            // other."
+            Instr::StoreFixed { array, source, .. } => {
+                let bits = self.get(register_slot(source));
+                self.raise(array_slot(array), bits);
+            }
             // "INIT: every transient register becomes public; arrays keep their
             // levels; status updated."
             Instr::Init => {

@@ -44,6 +44,9 @@ fn every_record() {
         select r0 r1 r2 r0
         load r0 a1[r2]
         store a1[r2] r0
+        load r1 a0[3]
+        store a1[1023] r2
+        load r0 a1[0x102]
         init
         update r2 zero
         update r2 nonzero
@@ -63,7 +66,7 @@ fn every_record() {
         return";
     let bytes = hex("01 03 02 02  02 04 00  02 00 04
         03 2C 00  01 24 00 00 00 09 00  00 2A 00 00 00 0A 00
-        03 77 00  00 00 00 00 00 04 00  01 3A 00 00 00 02 00
+        03 86 00  00 00 00 00 00 04 00  01 3A 00 00 00 02 00
         10 00 FF FF FF FF
         11 00 00 01 02  11 00 01 01 02  11 00 02 01 02  11 00 03 01 02
         11 00 04 01 02  11 00 05 01 02  11 00 06 01 02  11 00 07 01 02
@@ -71,19 +74,22 @@ fn every_record() {
         12 00 01 02 00
         13 00 01 02
         14 01 02 00
+        1B 01 00 03 00
+        1C 01 FF 03 02
+        1B 00 01 02 01
         15
         16 02 00  16 02 01
         17 01 02
         25
         18 00 00  18 00 01
-        20 01 87 00
+        20 01 96 00
           10 01 07 00 00 00
-        21 8B 00
+        21 9A 00
           15
         22
-        23 02 98 00  01 24 00 00 00 06 00
+        23 02 A7 00  01 24 00 00 00 06 00
           15
-        24 8C 00
+        24 9B 00
         AB 00 CD
         25");
     assert_eq!(asm(text), bytes);
@@ -116,6 +122,16 @@ fn errors() {
         "endwhile",
         "if r0",
         "load r0 r1",
+        "load r0 a0",
+        "load r0 a0[]",
+        "load r0 a0[x1]",
+        "load r0 a0[-1]",
+        "load r0 a0[65536]",
+        "load r0 a0[r256]",
+        "load r0 a0[1] r1",
+        "store a0[65536] r0",
+        "store a0[1]",
+        "store a0[1] 5",
         "jump r0",
         "const r0 4294967296",
         "hex 100",
@@ -126,6 +142,27 @@ fn errors() {
         assert!(assemble(text).is_err(), "{}", text);
     }
     assert_eq!(assemble("init\n nothing"), Err("line 2: `nothing` is no record".to_string()));
+}
+
+/// A number in the brackets is a fixed index, a register the other kind.
+#[test]
+fn fixed_and_other_indices() {
+    let head = "sizes 2 1 1\narray 8\nsignature unknown PP/P unknown SS/S\n";
+    let table = |code: &str| asm(&format!("{}{}\nreturn", head, code));
+    for &(code, bytes) in &[
+        ("load r1 a0[r1]", "13 01 00 01 25"),
+        ("load r1 a0[7]", "1B 01 00 07 00 25"),
+        ("store a0[r1] r0", "14 00 01 00 25"),
+        ("store a0[7] r1", "1C 00 07 00 01 25"),
+    ] {
+        let table = table(code);
+        assert_eq!(table[24..], hex(bytes)[..]);
+        assert!(disassemble(&table).contains(&format!("  {} ", code)), "{}", disassemble(&table));
+    }
+    // Any index may be written; this one does not read.
+    let table = table("load r1 a0[8]\nstore a0[65535] r1");
+    assert_eq!(table[24..], hex("1B 01 00 08 00 1C 00 FF FF 01 25")[..]);
+    round(&table);
 }
 
 fn round(table: &[u8]) {

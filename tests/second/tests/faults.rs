@@ -65,7 +65,7 @@ fn fault_03() {
     fails(&b_with(7, 0x02), 3, 7, 1);
     fails(&b_with(7, 0x25), 3, 7, 1);
     for kind in 0..=0xff {
-        if !matches!(kind, 0x10..=0x18 | 0x20 | 0x23 | 0x25) {
+        if !matches!(kind, 0x10..=0x18 | 0x1b | 0x1c | 0x20 | 0x23 | 0x25) {
             fails(&b_with(24, kind), 3, 24, 1);
             // Before 2: the record would be cut too.
             fails(&b_with(36, kind), 3, 36, 1);
@@ -141,6 +141,22 @@ fn fault_04() {
         ("call f2", 3),
         ("call f255 marked", 3),
         ("call f0 2", 3),
+        ("load r2 a0[0]", 5),
+        ("load r255 a0[0]", 5),
+        ("load r0 a1[0]", 5),
+        ("load r0 a255[0]", 5),
+        ("load r0 a0[4]", 5),
+        ("load r0 a0[5]", 5),
+        ("load r0 a0[256]", 5),
+        ("load r0 a0[65535]", 5),
+        ("store a1[0] r0", 5),
+        ("store a255[0] r0", 5),
+        ("store a0[4] r0", 5),
+        ("store a0[5] r0", 5),
+        ("store a0[256] r0", 5),
+        ("store a0[65535] r0", 5),
+        ("store a0[0] r2", 5),
+        ("store a0[0] r255", 5),
         ("if r2 @0", 4),
         ("while r2 unknown / @0", 11),
         ("while r0 2 / @0", 11),
@@ -155,6 +171,67 @@ fn fault_04() {
         // 2 before 4: cut by its last byte.
         fails(&table[..43 + length - 1], 2, 43, length - 1);
     }
+}
+
+/// 02, order 1: "index not below the array's words, 4".
+#[test]
+fn fault_04_of_fixed_indices() {
+    for &words in &[1, 2, 255, 256, 257, 1023, 1024] {
+        let table = |record: &str, index: u32| {
+            let record = record.replace("INDEX", &index.to_string());
+            // The array before it and the one after it are of other lengths.
+            asm(&format!(
+                "sizes 1 3 1\narray 1024\narray {}\narray 1024\n\
+                 signature unknown P/PPP unknown P/PPP\n{}\nreturn",
+                words, record
+            ))
+        };
+        for record in &["load r0 a1[INDEX]", "store a1[INDEX] r0"] {
+            for &index in &[0, words / 2, words - 1] {
+                assert_eq!(verdict(&table(record, index)), "accepted 1 functions 36 bytes");
+                assert_eq!(naive::check(&table(record, index)), Ok(1));
+            }
+            for &index in &[words, words + 1, words + 256, 32_768, 65_535] {
+                fails(&table(record, index), 4, 30, 5);
+            }
+        }
+    }
+    // No array at all.
+    for record in &["load r0 a0[0]", "store a0[0] r0"] {
+        let head = "sizes 1 0 1\nsignature unknown P/ unknown P/\n";
+        fails(&asm(&format!("{}{}\nreturn", head, record)), 4, 21, 5);
+    }
+    // 4 before the 5 of a start place; it and 2 before any later record's fault.
+    let head = "sizes 1 1 1\narray 4\nsignature unknown P/P unknown P/P @0\n";
+    for record in &["load r0 a0[4]", "store a0[4] r0"] {
+        fails(&asm(&format!("{}{}\nhex FF", head, record)), 4, 24, 5);
+    }
+    for record in &["load r0 a0[3]", "store a0[3] r0"] {
+        fails(&asm(&format!("{}{}\nhex FF", head, record)), 5, 24, 5);
+    }
+    // Before typing: the LOAD before it has a secret index.
+    let head = "sizes 1 1 1\narray 4\nsignature unknown S/P unknown S/P\n";
+    fails(&asm(&format!("{}load r0 a0[r0]\nload r0 a0[4]\nreturn", head)), 4, 28, 5);
+}
+
+#[test]
+fn fault_02_of_fixed_accesses() {
+    let head = "sizes 1 1 1\narray 4\nsignature unknown P/P unknown P/P\nload r0 a0[3]\n";
+    for record in &["load r0 a0[3]", "store a0[3] r0"] {
+        let table = asm(&format!("{}{}\nreturn", head, record));
+        assert_eq!(table.len(), 35);
+        for length in 29..34 {
+            fails(&table[..length], 2, 29, length - 29);
+        }
+        // Whole, and then a record is due.
+        fails(&table[..34], 2, 34, 0);
+    }
+    // Cut, and what is there out of range: 2.
+    let mut table = asm(head);
+    table.extend(hex("1B FF FF FF"));
+    fails(&table, 2, 29, 4);
+    table[29] = 0x1c;
+    fails(&table, 2, 29, 4);
 }
 
 #[test]
@@ -275,6 +352,29 @@ fn fault_10() {
     ] {
         fails(&asm(&format!("{}{}\nreturn", head, code)), 10, 24, length);
     }
+    // LOAD FIXED and STORE FIXED have no such demand, but what a LOAD FIXED gives
+    // is as its array.
+    let head = "sizes 3 3 1\narray 4\narray 4\narray 4\n\
+                signature unknown PTS/PTS unknown SSS/SSS\n";
+    for &(code, length) in &[
+        ("load r0 a0[r1]", 4),
+        ("store a0[r1] r0", 4),
+        ("if r1\nelse\nendif", 4),
+        ("while r1 unknown PTS/PTS\nendwhile", 11),
+        ("while r1 unknown PSS/PTS\nendwhile", 11),
+    ] {
+        for array in 0..3 {
+            let load = format!("load r1 a{}[3]", array);
+            let table = asm(&format!("{}{}\n{}\nreturn", head, load, code));
+            match (array, length) {
+                // At WHILE 12 before 10.
+                (2, 11) if code.contains("PTS/PTS\n") => fails(&table, 12, 35, 11),
+                (0, 11) => fails(&table, 10, 35, 11),
+                (0, _) => assert!(verdict(&table).starts_with("accepted"), "{}", code),
+                _ => fails(&table, 10, 35, length),
+            }
+        }
+    }
 }
 
 #[test]
@@ -293,6 +393,8 @@ fn fault_11() {
         ("init\nif r0\nadd r0 r1 r1\nupdate r0 nonzero\nelse\nendif", 34),
         ("init\nif r0\nselect r0 r1 r1 r1\nupdate r0 nonzero\nelse\nendif", 34),
         ("init\nif r0\nload r0 a0[r1]\nupdate r0 nonzero\nelse\nendif", 33),
+        ("init\nif r0\nload r0 a0[0]\nupdate r0 nonzero\nelse\nendif", 34),
+        ("init\nif r0\nelse\nload r0 a0[3]\nupdate r0 zero\nendif", 37),
         // An IF under outdated: both blocks unknown.
         ("init\nif r0\nif r0\nupdate r0 nonzero\nelse\nendif\nelse\nendif", 33),
         // After an IF the join of outdated(0,1) and outdated(0,0).
@@ -306,7 +408,8 @@ fn fault_11() {
     ] {
         fails(&asm(&format!("{}{}\nreturn", head, code)), 11, place, 3);
     }
-    let good = "init\nif r0\nconst r1 1\nstore a0[r1] r1\nupdate r0 nonzero\nelse\n\
+    let good = "init\nif r0\nconst r1 1\nstore a0[r1] r1\nload r1 a0[0]\nstore a0[1] r1\n\
+                update r0 nonzero\nelse\n\
                 update r0 zero\nendif\nprotect r0 r0\n\
                 while r0 updated PP/P\nupdate r0 nonzero\nendwhile\nupdate r0 zero\nprotect r1 r0\n";
     assert!(verdict(&asm(&format!("{}{}return", head, good))).starts_with("accepted"));
@@ -325,6 +428,9 @@ fn fault_12() {
         // At ENDWHILE: a register, an array, the status.
         ("while r0 unknown PT/T\nload r0 a0[r0]\nendwhile", 39, 3),
         ("while r0 unknown PS/T\nstore a0[r0] r1\nendwhile", 39, 3),
+        ("while r0 unknown PT/T\nload r0 a0[3]\nendwhile", 40, 3),
+        ("while r0 unknown PS/T\nstore a0[3] r1\nendwhile", 40, 3),
+        ("init\nwhile r0 updated PP/T\nupdate r0 nonzero\nload r1 a0[0]\nendwhile", 44, 3),
         ("init\nwhile r0 updated PP/T\nendwhile", 36, 3),
         ("init\nwhile r0 updated PP/T\nupdate r0 nonzero\nconst r1 0\nif r1\nelse\nendif\nendwhile", 53, 3),
     ] {
@@ -350,6 +456,23 @@ fn fault_13() {
     }
     let table = asm(&format!("{}init\ncall f0\nreturn", callee("updated PP/T")));
     assert!(verdict(&table).starts_with("accepted"));
+    // A STORE FIXED or LOAD FIXED before the CALL raises what the callee takes.
+    let head = "sizes 2 2 2\narray 4\narray 4\nsignature unknown PT/PT unknown SS/SS\n\
+                signature unknown PT/PT unknown SS/SS\nreturn\n";
+    for &(code, number) in &[
+        ("store a0[0] r1", 13),
+        ("load r0 a1[0]", 13),
+        ("store a0[0] r0", 0),
+        ("store a1[0] r1", 0),
+        ("load r0 a0[0]", 0),
+        ("load r1 a1[0]", 0),
+    ] {
+        let table = asm(&format!("{}{}\ncall f0\nreturn", head, code));
+        match number {
+            0 => assert!(verdict(&table).starts_with("accepted"), "{}", code),
+            _ => fails(&table, number, 50, 3),
+        }
+    }
     // "Caller's own levels put back after CALL" would pass here.
     let table = asm(&format!("{}call f0\nload r1 a0[r0]\nreturn", callee("unknown PT/T")));
     fails(&table, 10, 45, 4);
@@ -369,6 +492,11 @@ fn fault_14() {
     let store = "sizes 2 2 1\narray 1\narray 1\nsignature unknown PS/PP unknown PS/SP\n\
                  store a0[r0] r1\nreturn";
     fails(&asm(store), 14, 31, 1);
+    // STORE FIXED "raises only the named array".
+    let fixed = store.replace("a0[r0]", "a0[0]");
+    assert_eq!(verdict(&asm(&fixed)), "accepted 1 functions 33 bytes");
+    fails(&asm(&fixed.replace("PS/SP", "PS/TP")), 14, 32, 1);
+    fails(&asm(&fixed.replace("PS/SP", "PS/PS")), 14, 32, 1);
 }
 
 #[test]

@@ -6,6 +6,8 @@ mod common;
 use common::{asm, naive, plain_run};
 use second::gen::{self, Rng, Rules};
 use second::pairs::{pair, Pair};
+use second::table::Instr;
+use second::typing::Env;
 use second::{check, message, run, Outcome, Verdict};
 
 fn agrees(table: &[u8], seed: u64) -> Verdict {
@@ -15,6 +17,11 @@ fn agrees(table: &[u8], seed: u64) -> Verdict {
         Err((number, place)) => Verdict::Refused { number, place },
     };
     assert_eq!(verdict, plain, "seed {}", seed);
+    let by_rules = match gen::check_by(Rules::Right, table) {
+        Ok(functions) => Verdict::Accepted { functions, bytes: table.len() },
+        Err(fault) => Verdict::Refused { number: fault.number, place: fault.place },
+    };
+    assert_eq!(verdict, by_rules, "seed {}", seed);
     message::of_verdict(&verdict, table).of(table, &[]);
     verdict
 }
@@ -48,6 +55,93 @@ fn damaged_tables_fail_as_due() {
             assert_eq!(verdict, Verdict::Refused { number, place }, "seed {}", seed);
         }
     }
+}
+
+/// How often good tables have LOAD FIXED of each level, and STORE FIXED of each
+/// source into each array, before a function's first block or CALL (where the
+/// environment is easily followed); how often a public LOAD FIXED is an index or
+/// guard soon after.
+#[test]
+fn good_tables_have_fixed_accesses() {
+    let mut loads = [0; 3];
+    let mut stores = [[0; 3]; 3];
+    let mut used = 0;
+    for seed in 0..3_000 {
+        let bytes = gen::good(seed);
+        let table = second::table::read(&bytes).expect("reads");
+        for function in 0..table.functions() {
+            let mut env = Env::from_packed(table.input(function));
+            let mut fixed = None;
+            let mut place = table.start(function);
+            loop {
+                let (instr, length) = table.instr(place);
+                place += length;
+                match instr {
+                    Instr::LoadFixed { dest, array, .. } => {
+                        loads[usize::from(env.array(array))] += 1;
+                        fixed = Some(dest);
+                    }
+                    Instr::StoreFixed { array, source, .. } => {
+                        let held = usize::from(env.array(array));
+                        stores[usize::from(env.register(source))][held] += 1;
+                    }
+                    // An index after an AND with it, or a guard.
+                    Instr::Op { op: 4, left, right, .. } => {
+                        used += u32::from(fixed == Some(left) || fixed == Some(right));
+                    }
+                    Instr::If { register, .. } => used += u32::from(fixed == Some(register)),
+                    _ => {}
+                }
+                if !matches!(
+                    instr,
+                    Instr::Const { .. }
+                        | Instr::Op { .. }
+                        | Instr::Select { .. }
+                        | Instr::Load { .. }
+                        | Instr::Store { .. }
+                        | Instr::LoadFixed { .. }
+                        | Instr::StoreFixed { .. }
+                ) {
+                    break;
+                }
+                env.simple(&instr, table.arrays()).expect("types");
+            }
+        }
+    }
+    assert!(loads.iter().all(|&count| count > 200), "{:?}", loads);
+    assert!(stores.iter().flatten().all(|&count| count > 10), "{:?}", stores);
+    assert!(used > 200, "{}", used);
+}
+
+/// The ways in which damage gives a fixed access a fault 4.
+#[test]
+fn damaged_fixed_accesses() {
+    let mut counts = [[0; 5]; 2];
+    for seed in 0..6_000 {
+        let (bytes, place) = gen::damaged(4, seed);
+        let (store, register, array, index) = match Instr::decode(&bytes[place..]) {
+            Some((Instr::LoadFixed { dest, array, index }, _)) => (0, dest, array, index),
+            Some((Instr::StoreFixed { array, index, source }, _)) => (1, source, array, index),
+            _ => continue,
+        };
+        assert_eq!(agrees(&bytes, seed), Verdict::Refused { number: 4, place });
+        let way = if register >= bytes[1] {
+            0
+        } else if array >= bytes[2] {
+            1
+        } else {
+            let at = 5 + 3 * usize::from(array);
+            let words = u16::from_le_bytes([bytes[at], bytes[at + 1]]);
+            assert!(index >= words);
+            match index {
+                u16::MAX => 2,
+                _ if index == words => 3,
+                _ => 4,
+            }
+        };
+        counts[store][way] += 1;
+    }
+    assert!(counts.iter().flatten().all(|&count| count > 5), "{:?}", counts);
 }
 
 #[test]
@@ -109,6 +203,8 @@ fn observations(mut bytes: &[u8]) -> usize {
 fn mixed_runs() {
     let mut faults = [0; 17];
     let mut stops = [0; 27];
+    // Stops at fixed accesses, on the right path and misspeculating.
+    let mut at_fixed = [[0; 27]; 2];
     for seed in 0..6_000 {
         let case = gen::run_case(seed);
         let mut registers = case.registers.clone();
@@ -140,8 +236,11 @@ fn mixed_runs() {
                 assert_eq!(memory, case.memory);
                 assert_eq!(seen, case.observations);
             }
-            Outcome::Stopped { number, steps, .. } => {
+            Outcome::Stopped { number, place, steps, misspeculating, .. } => {
                 stops[usize::from(number)] += 1;
+                if matches!(case.table[place], 0x1b | 0x1c) {
+                    at_fixed[usize::from(misspeculating)][usize::from(number)] += 1;
+                }
                 // The same run with just the room it used, and no more
                 // directives than it used: all the same, but for 20 in place of
                 // the stops that look at a directive.
@@ -180,6 +279,12 @@ fn mixed_runs() {
     }
     for number in 20..=26 {
         assert!(stops[number] > 0, "no stop {}: {:?}", number, stops);
+    }
+    for stops in &at_fixed {
+        // 20, 22 and 26 only.
+        for (number, &count) in stops.iter().enumerate() {
+            assert_eq!(count > 0, matches!(number, 20 | 22 | 26), "{:?}", at_fixed);
+        }
     }
 }
 
@@ -290,6 +395,12 @@ fn leaks(table: &[u8], tries: usize, seed: u64) -> bool {
     (0..tries).any(|_| leaking(pair(table, &mut rng)))
 }
 
+/// Whether some of many pairs of runs observe different things.
+fn observes(table: &[u8], tries: usize, seed: u64) -> bool {
+    let mut rng = Rng::new(seed);
+    (0..tries).any(|_| !pair(table, &mut rng).alike)
+}
+
 /// The comparison of runs can find what it looks for: tables by these wrong rules
 /// leak, and none of those that leak passes.
 #[test]
@@ -301,16 +412,38 @@ fn wrong_rules_leak() {
         (Rules::BranchUpdated, 2_000),
         (Rules::ProtectAll, 400),
         (Rules::InitAll, 100),
+        (Rules::StoreNamed, 1_000),
+        (Rules::FixedPublic, 100),
+        (Rules::FixedOutdated, 1_000),
+        (Rules::FixedRaisesNone, 400),
+        (Rules::FixedLowers, 400),
     ] {
         let mut leaking = 0;
+        let mut observed = 0;
         for seed in 0..tables {
             let table = gen::by_rules(rules, seed);
             if leaks(&table, 3, seed) {
                 leaking += 1;
                 assert!(matches!(check(&table), Verdict::Refused { .. }), "seed {}", seed);
             }
+            observed += u32::from(observes(&table, 3, seed));
         }
-        assert!(leaking > 0, "{:?}", rules);
+        assert!(leaking > 0 && observed > 0, "{:?}: {}, {}", rules, leaking, observed);
+    }
+}
+
+/// Tables by wrong rules pass by those rules, and not all of them by the right
+/// ones.
+#[test]
+fn tables_by_wrong_rules_pass_by_them() {
+    for &rules in &Rules::WRONG {
+        let mut refused = 0;
+        for seed in 0..300 {
+            let table = gen::by_rules(rules, seed);
+            assert!(gen::check_by(rules, &table).is_ok(), "{:?} seed {}", rules, seed);
+            refused += u32::from(matches!(agrees(&table, seed), Verdict::Refused { .. }));
+        }
+        assert!(refused > 10, "{:?}: {}", rules, refused);
     }
 }
 

@@ -91,6 +91,76 @@ fn case_08_store_of_a_public() {
     }
 }
 
+// 02, order 1.
+
+const STATUSES: [Status; 4] = [
+    Status::Unknown,
+    Status::Updated,
+    Status::Outdated { register: 0, sense: 1 },
+    Status::Outdated { register: 1, sense: 0 },
+];
+
+/// "LOAD FIXED gives dest the array's own level"; LOAD gives transient of a public
+/// array.
+#[test]
+fn load_fixed_gives_the_arrays_own_level() {
+    for &status in &STATUSES {
+        for &before in &[PUBLIC, TRANSIENT, SECRET] {
+            for &level in &[PUBLIC, TRANSIENT, SECRET] {
+                let env = Env::new(status, &[PUBLIC, before, SECRET], &[SECRET, level]);
+                let fixed = Instr::LoadFixed { dest: 1, array: 1, index: 0 };
+                let after_fixed = after(env, fixed, 2);
+                // A write to r1 ends what is outdated by r1, and nothing else.
+                let left = match status {
+                    Status::Outdated { register: 1, .. } => Status::Unknown,
+                    other => other,
+                };
+                assert_eq!(after_fixed, Env::new(left, &[PUBLIC, level, SECRET], &[SECRET, level]));
+                let load = Instr::Load { dest: 1, array: 1, index: 0 };
+                let raised = Env::new(left, &[PUBLIC, level.max(1), SECRET], &[SECRET, level]);
+                assert_eq!(after(env, load, 2), raised);
+            }
+        }
+    }
+}
+
+/// "STORE FIXED raises only the named array as STORE does and no other."
+#[test]
+fn store_fixed_raises_only_the_named_array() {
+    for &status in &STATUSES {
+        for &source in &[PUBLIC, TRANSIENT, SECRET] {
+            for &held in &[PUBLIC, TRANSIENT, SECRET] {
+                let arrays = [PUBLIC, held, TRANSIENT, SECRET, PUBLIC];
+                let env = Env::new(status, &[PUBLIC, source], &arrays);
+                let fixed = Instr::StoreFixed { array: 1, index: 0, source: 1 };
+                let arrays = [PUBLIC, held.max(source), TRANSIENT, SECRET, PUBLIC];
+                let expected = Env::new(status, &[PUBLIC, source], &arrays);
+                assert_eq!(after(env, fixed, 5), expected);
+                // STORE raises the named array so too, and the other public ones.
+                let other = source.min(TRANSIENT);
+                let arrays = [other, held.max(source), TRANSIENT, SECRET, other];
+                let expected = Env::new(status, &[PUBLIC, source], &arrays);
+                let store = Instr::Store { array: 1, index: 0, source: 1 };
+                assert_eq!(after(env, store, 5), expected);
+            }
+        }
+    }
+}
+
+/// Table A's second access passes where the first is at a fixed place.
+#[test]
+fn table_a_with_a_fixed_load() {
+    let mut table = table_a();
+    table.splice(24..28, [0x1b, 0x00, 0x00, 0x03, 0x00]);
+    assert_eq!(program(&table), "accepted 1 functions 34 bytes\n");
+    let ran = ran(&table, &[0, 1], &[3, 2, 9, 1], "60 60", 12);
+    assert_eq!(ran.outcome, stopped(21, 33, 2, false, false));
+    assert_eq!(ran.registers, [1, 2]);
+    assert_eq!(ran.observations, [0x72, 0, 3, 0, 0, 0, 0x72, 0, 1, 0, 0, 0]);
+    table[27] = 4;
+    assert_eq!(program(&table), "refused 4 at 24\n");
+}
+
 #[test]
 fn case_09_join_of_statuses() {
     let outdated = Status::Outdated { register: 0, sense: 1 };

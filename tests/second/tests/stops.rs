@@ -31,8 +31,10 @@ fn stop_20() {
     assert_eq!(ran.outcome, stopped(20, START + 4, 1, true, false));
     let ran = go("load r0 a0[r1]", &[0, 9, 0], "");
     assert_eq!(ran.outcome, stopped(20, START, 0, false, false));
-    let ran = common::ran(&code("const r0 5"), &[1, 2, 3], &MEMORY, "", 0);
-    assert_eq!(ran.outcome, stopped(20, START, 0, false, false));
+    for text in &["const r0 5", "load r0 a0[1]", "store a0[1] r0"] {
+        let ran = common::ran(&code(text), &[1, 2, 3], &MEMORY, "", 0);
+        assert_eq!(ran.outcome, stopped(20, START, 0, false, false));
+    }
 }
 
 #[test]
@@ -61,6 +63,8 @@ fn stop_22() {
         "select r0 r1 r2 r2",
         "load r0 a0[r1]",
         "store a0[r1] r0",
+        "load r0 a0[1]",
+        "store a0[1] r0",
         "init",
         "update r0 zero",
         "protect r0 r1",
@@ -92,6 +96,21 @@ fn stop_22() {
     // In range while misspeculating: 62 is.
     let ran = go("if r0\nload r0 a0[r1]\nelse\nendif", &[0, 1, 0], "61 01 62 00 00 00");
     assert_eq!(ran.outcome, stopped(22, START + 4, 1, true, false));
+    // At a fixed place it always is, real word or not, and so is any other; before
+    // 26.
+    for access in &["load r0 a0[1]", "store a1[2] r2"] {
+        let text = format!("if r0\n{}\nelse\nendif", access);
+        for list in &["62 00 01 00", "62 01 02 00", "62 09 00 00", "61 00", "61 01", "63 1F 00"] {
+            let list = format!("61 01 {}", list);
+            for &room in &[2, 64] {
+                let ran = common::ran(&code(&text), &[0, 9, 7], &MEMORY, &list, room);
+                assert_eq!(ran.outcome, stopped(22, START + 4, 1, true, false), "{}", list);
+                assert_eq!(ran.registers, [0, 9, 7]);
+                assert_eq!(ran.memory, MEMORY);
+                assert_eq!(ran.observations[2..], vec![0xee; room - 2]);
+            }
+        }
+    }
 }
 
 #[test]
@@ -156,6 +175,8 @@ fn stop_26() {
         ("init", "60", 1),
         ("load r0 a0[r1]", "60", 6),
         ("store a0[r1] r0", "60", 6),
+        ("load r0 a0[1]", "60", 6),
+        ("store a0[1] r0", "60", 6),
         ("if r0\nelse\nendif", "61 01", 2),
         ("while r0 unknown /\nendwhile", "61 00", 2),
     ] {
@@ -325,6 +346,59 @@ fn accesses() {
     let ran = go(store, &[0, 3, 77], "61 01 62 00 01 00 60");
     assert_eq!(ran.memory, [10, 77, 20, 21, 22]);
     assert_eq!(ran.observations[..8], [0x71, 0, 0x72, 1, 3, 0, 0, 0]);
+}
+
+/// 02, order 1: "Both take the plain directive and observe the address."
+#[test]
+fn fixed_accesses() {
+    // The registers' values do not matter: no 24.
+    for &other in &[0, 9, u32::MAX] {
+        let ran = go("load r0 a1[2]", &[other, other, 0], "60");
+        assert_eq!(ran.outcome, stopped(21, START + 5, 1, false, false));
+        assert_eq!(ran.registers, [22, other, 0]);
+        assert_eq!(ran.memory, MEMORY);
+        assert_eq!(ran.observations[..7], [0x72, 1, 2, 0, 0, 0, 0xee]);
+        let ran = go("store a1[0] r1", &[other, 77, other], "60");
+        assert_eq!(ran.outcome, stopped(21, START + 5, 1, false, false));
+        assert_eq!(ran.registers, [other, 77, other]);
+        assert_eq!(ran.memory, [10, 11, 77, 21, 22]);
+        assert_eq!(ran.observations[..7], [0x72, 1, 0, 0, 0, 0, 0xee]);
+    }
+    // First and last words; the neighbours stay.
+    assert_eq!(go("load r1 a0[0]", &[0, 0, 0], "60").registers, [0, 10, 0]);
+    assert_eq!(go("load r1 a0[1]", &[0, 0, 0], "60").registers, [0, 11, 0]);
+    assert_eq!(go("load r1 a1[0]", &[0, 0, 0], "60").registers, [0, 20, 0]);
+    assert_eq!(go("store a0[1] r2", &[0, 0, 77], "60").memory, [10, 77, 20, 21, 22]);
+    assert_eq!(go("store a1[2] r2", &[0, 0, 77], "60").memory, [10, 11, 20, 21, 77]);
+
+    // Misspeculating: the same.
+    let both = "if r0\nload r1 a0[1]\nstore a1[2] r1\nelse\nendif";
+    let ran = go(both, &[0, 0, 0], "61 01 60 60 60");
+    assert_eq!(ran.outcome, stopped(21, START + 18, 4, true, false));
+    assert_eq!(ran.registers, [0, 11, 0]);
+    assert_eq!(ran.memory, [10, 11, 20, 21, 11]);
+    assert_eq!(ran.observations[..14], [0x71, 0, 0x72, 0, 1, 0, 0, 0, 0x72, 1, 2, 0, 0, 0]);
+    assert_eq!(ran.observations[14..16], [0x70, 0xee]);
+    // Masked: LOAD FIXED has nothing to do with the flag.
+    let ran = go("update r0 nonzero\nload r1 a0[1]", &[0, 0, 0], "60 60");
+    assert_eq!(ran.outcome, stopped(21, START + 8, 2, false, true));
+    assert_eq!(ran.registers, [0, 11, 0]);
+    // What a stray STORE left is read.
+    let spilled = "if r0\nstore a0[r1] r2\nload r1 a1[2]\nelse\nendif";
+    let ran = go(spilled, &[0, 9, 77], "61 01 62 01 02 00 60 60");
+    assert_eq!(ran.outcome, stopped(21, START + 17, 4, true, false));
+    assert_eq!(ran.registers, [0, 77, 77]);
+
+    // A long array: the index has two bytes in the record and four as observed.
+    let table = asm("sizes 1 1 1\narray 1024\nsignature unknown / unknown /\n\
+                     load r0 a0[1023]\nstore a0[258] r0\nreturn");
+    let mut memory: Vec<u32> = (5_000..6_024).collect();
+    let ran = common::ran(&table, &[0], &memory, "60 60", 12);
+    assert_eq!(ran.outcome, stopped(21, 34, 2, false, false));
+    assert_eq!(ran.registers, [6_023]);
+    memory[258] = 6_023;
+    assert_eq!(ran.memory, memory);
+    assert_eq!(ran.observations, [0x72, 0, 0xff, 3, 0, 0, 0x72, 0, 2, 1, 0, 0]);
 }
 
 #[test]

@@ -566,6 +566,125 @@ fn sizes(to: &mut Cases) -> io::Result<()> {
     chain(to, 124)
 }
 
+/// LOAD FIXED 0 := array 0 at an index in an array of 4, on the right path; kind 27.
+fn of_fixed_loads(to: &mut Cases) -> io::Result<()> {
+    to.case("LOAD FIXED of index 0");
+    to.one(&[27, 0, 0, 0, 0, 37], 5, 6, &[96], 8)?;
+    to.case("LOAD FIXED of index 3 in an array of 4, room 6");
+    to.one(&[27, 0, 0, 3, 0, 37], 5, 6, &[96], 6)?;
+    to.case("stop 26: LOAD FIXED, room 5");
+    to.one(&[27, 0, 0, 3, 0, 37], 5, 6, &[96], 5)?;
+    to.case("stop 20: LOAD FIXED, no directive and no room");
+    to.one(&[27, 0, 0, 3, 0, 37], 5, 6, &[], 0)?;
+    to.case("stop 22: a stray access at LOAD FIXED");
+    to.one(&[27, 0, 0, 3, 0, 37], 5, 6, &[98, 0, 3, 0], 8)?;
+    to.case("stop 22: a branch at LOAD FIXED");
+    to.one(&[27, 0, 0, 3, 0, 37], 5, 6, &[97, 1], 8)?;
+    // 22 before 26
+    to.case("stop 22: a return at LOAD FIXED, no room");
+    to.one(&[27, 0, 0, 3, 0, 37], 5, 6, &[99, 29, 0], 0)?;
+    // arrays of 4 and 3 words
+    to.case("LOAD FIXED from array 1");
+    to.two(&[27, 2, 1, 2, 0, 37], [0, 1, 77], &[96], 8)?;
+    // an array of 259 words: both bytes of the index
+    let table = [&[1, 2, 1, 1, 2, 3, 1], &signature(24)[..], &[27, 1, 0, 2, 1, 37]].concat();
+    let memory: Vec<u32> = (1000..1259).collect();
+    to.case("LOAD FIXED of index 258 in an array of 259");
+    to.run_in(&table, &[5, 6], &memory, &[96], 8)
+}
+
+/// STORE FIXED at an index := a register; kind 28.
+fn of_fixed_stores(to: &mut Cases) -> io::Result<()> {
+    to.case("STORE FIXED at index 3 in an array of 4, room 6");
+    to.one(&[28, 0, 3, 0, 1, 37], 5, 6, &[96], 6)?;
+    to.case("stop 26: STORE FIXED, room 5");
+    to.one(&[28, 0, 3, 0, 1, 37], 5, 6, &[96], 5)?;
+    to.case("stop 20: STORE FIXED, no directive");
+    to.one(&[28, 0, 3, 0, 1, 37], 5, 6, &[], 8)?;
+    to.case("stop 22: a stray access at STORE FIXED");
+    to.one(&[28, 0, 3, 0, 1, 37], 5, 6, &[98, 0, 3, 0], 8)?;
+    to.case("stop 22: a branch at STORE FIXED, no room");
+    to.one(&[28, 0, 3, 0, 1, 37], 5, 6, &[97, 0], 0)?;
+    to.case("stop 22: a return at STORE FIXED");
+    to.one(&[28, 0, 3, 0, 1, 37], 5, 6, &[99, 29, 0], 8)?;
+    // arrays of 4 and 3 words
+    to.case("STORE FIXED at the last word of array 0, array 1 unchanged");
+    to.two(&[28, 0, 3, 0, 2, 37], [0, 1, 77], &[96], 8)?;
+    to.case("STORE FIXED at the first word of array 1, array 0 unchanged");
+    to.two(&[28, 1, 0, 0, 2, 37], [0, 1, 77], &[96], 8)?;
+    // STORE FIXED array 1 at 2 := 2, LOAD FIXED 0 := array 1 at 2
+    to.case("STORE FIXED and LOAD FIXED of the same word");
+    to.two(&[28, 1, 2, 0, 2, 27, 0, 1, 2, 0, 37], [0, 1, 77], &[96, 96], 12)
+}
+
+/// Both while misspeculating: register 0 is 0 and the directive goes into the
+/// first block of IF 0.
+fn of_fixed_astray(to: &mut Cases) -> io::Result<()> {
+    // LOAD FIXED 1 := array 0 at 3
+    let load = &[32, 0, 33, 0, 27, 1, 0, 3, 0, 33, 36, 0, 34, 37];
+    to.case("misspeculating, LOAD FIXED");
+    to.one(load, 0, 6, &[97, 1, 96, 96], 12)?;
+    to.case("stop 22: misspeculating, a stray access at LOAD FIXED");
+    to.one(load, 0, 6, &[97, 1, 98, 0, 2, 0, 96], 12)?;
+    // 22 before 25 and 26
+    to.case("stop 22: misspeculating, LOAD FIXED, no such word and no room");
+    to.one(load, 0, 6, &[97, 1, 98, 0, 4, 0, 96], 2)?;
+    to.case("stop 26: misspeculating, LOAD FIXED, room for 5 of 6 bytes");
+    to.one(load, 0, 6, &[97, 1, 96, 96], 7)?;
+    // STORE FIXED array 1 at 2 := 2; arrays of 4 and 3 words
+    let store = &[32, 0, 36, 0, 28, 1, 2, 0, 2, 33, 39, 0, 34, 37];
+    to.case("misspeculating, STORE FIXED");
+    to.two(store, [0, 1, 77], &[97, 1, 96, 96], 12)?;
+    to.case("stop 22: misspeculating, a stray access at STORE FIXED");
+    to.two(store, [0, 1, 77], &[97, 1, 98, 0, 0, 0, 96], 12)?;
+    // STORE array 0 at register 1 := 2, LOAD FIXED 1 := array 1 at 2
+    let both = &[32, 0, 40, 0, 20, 0, 1, 2, 27, 1, 1, 2, 0, 33, 43, 0, 34, 37];
+    to.case("a stray STORE, and LOAD FIXED of the word that it touched");
+    to.two(both, [0, 4, 77], &[97, 1, 98, 1, 2, 0, 96, 96], 16)
+}
+
+/// Both in the reading: 3, 2, 4, 5.
+fn of_fixed_tables(to: &mut Cases) -> io::Result<()> {
+    to.case("refusal 4: LOAD FIXED of index 4 in an array of 4");
+    to.one(&[27, 0, 0, 4, 0, 37], 5, 6, &[96], 8)?;
+    to.case("refusal 4: LOAD FIXED of index 256 in an array of 4");
+    to.one(&[27, 0, 0, 0, 1, 37], 5, 6, &[96], 8)?;
+    to.case("refusal 4: LOAD FIXED of index 65,535");
+    to.one(&[27, 0, 0, 255, 255, 37], 5, 6, &[96], 8)?;
+    to.case("refusal 4: LOAD FIXED, no register 2");
+    to.one(&[27, 2, 0, 0, 0, 37], 5, 6, &[96], 8)?;
+    to.case("refusal 4: LOAD FIXED, no array 1");
+    to.one(&[27, 0, 1, 0, 0, 37], 5, 6, &[96], 8)?;
+    let none = [vec![1, 2, 0, 1], signature(21), vec![27, 0, 0, 0, 0, 37]].concat();
+    to.case("refusal 4: LOAD FIXED, no array at all");
+    to.run_in(&none, &[5, 6], &[], &[96], 8)?;
+    // arrays of 4 and 3 words; a good record before it
+    to.case("refusal 4: STORE FIXED at index 3 in array 1 of 3");
+    to.two(&[28, 0, 3, 0, 2, 28, 1, 3, 0, 2, 37], [0, 1, 77], &[96, 96], 12)?;
+    to.case("refusal 4: STORE FIXED at index 256 in array 1 of 3");
+    to.two(&[28, 1, 0, 1, 2, 37], [0, 1, 77], &[96], 8)?;
+    to.case("refusal 4: STORE FIXED, no array 2");
+    to.two(&[28, 2, 0, 0, 2, 37], [0, 1, 77], &[96], 8)?;
+    to.case("refusal 4: STORE FIXED, no register 3");
+    to.two(&[28, 1, 0, 0, 3, 37], [0, 1, 77], &[96], 8)?;
+    // the last byte is missing; 2 before 4
+    to.case("refusal 2: LOAD FIXED cut short");
+    to.one(&[27, 9, 9, 9], 5, 6, &[96], 8)?;
+    to.case("refusal 2: STORE FIXED cut short");
+    to.one(&[28, 9, 9, 9], 5, 6, &[96], 8)?;
+    // the kinds before and after these two
+    to.case("refusal 3: kind 1A");
+    to.one(&[26, 0, 0, 0, 0, 37], 5, 6, &[96], 8)?;
+    to.case("refusal 3: kind 1D");
+    to.one(&[29, 0, 0, 0, 0, 37], 5, 6, &[96], 8)?;
+    // the signature says that the function starts at 25; 4 before 5
+    let start = [vec![1, 2, 1, 1, 2, 4, 0], signature(25)].concat();
+    to.case("refusal 4: LOAD FIXED of index 4, and a wrong start place");
+    to.whole(&[&start[..], &[27, 0, 0, 4, 0, 37]].concat())?;
+    to.case("refusal 5: LOAD FIXED of index 3, and a wrong start place");
+    to.whole(&[&start[..], &[27, 0, 0, 3, 0, 37]].concat())
+}
+
 fn main() -> io::Result<()> {
     let stdout = io::stdout();
     let mut out = io::BufWriter::new(stdout.lock());
@@ -591,5 +710,9 @@ fn main() -> io::Result<()> {
     of_lengths(to)?;
     of_lists(to)?;
     sizes(to)?;
+    of_fixed_loads(to)?;
+    of_fixed_stores(to)?;
+    of_fixed_astray(to)?;
+    of_fixed_tables(to)?;
     out.flush()
 }

@@ -47,6 +47,8 @@ struct Reader<'a> {
     regs: usize,
     arrs: usize,
     funs: usize,
+    /// Words of each array.
+    words: Vec<u32>,
     ins: Vec<Env>,
     outs: Vec<Env>,
     starts: Vec<usize>,
@@ -63,6 +65,8 @@ fn body(kind: u8) -> usize {
         0x11 | 0x12 => 4,
         0x13 | 0x14 => 3,
         0x16..=0x18 => 2,
+        0x1b => 1 + 1 + 2,
+        0x1c => 1 + 2 + 1,
         0x20 => 1 + 2,
         0x21 | 0x24 => 2,
         0x23 => 1 + 2 + 7,
@@ -135,10 +139,14 @@ impl<'a> Reader<'a> {
     }
 
     fn instruction(&mut self, left: usize) -> Result<Node, Fault> {
-        let open = [0x10, 0x11, 0x12, 0x13, 0x14, 0x15, 0x16, 0x17, 0x18, 0x20, 0x23];
+        let open = [0x10, 0x11, 0x12, 0x13, 0x14, 0x15, 0x16, 0x17, 0x18, 0x1b, 0x1c, 0x20, 0x23];
         let (place, r) = self.record(&open)?;
         let reg = |n: u8| usize::from(n) < self.regs;
         let arr = |n: u8| usize::from(n) < self.arrs;
+        let word = |n: u8, low: u8, high: u8| {
+            let index = u32::from(low) + 256 * u32::from(high);
+            self.words.get(usize::from(n)).map_or(false, |&words| index < words)
+        };
         let fields = match r[0] {
             0x10 => reg(r[1]),
             0x11 => reg(r[1]) && r[2] < 8 && reg(r[3]) && reg(r[4]),
@@ -148,6 +156,8 @@ impl<'a> Reader<'a> {
             0x16 => reg(r[1]) && r[2] < 2,
             0x17 => reg(r[1]) && reg(r[2]),
             0x18 => usize::from(r[1]) < self.funs && r[2] < 2,
+            0x1b => reg(r[1]) && word(r[2], r[3], r[4]),
+            0x1c => word(r[1], r[2], r[3]) && reg(r[4]),
             0x20 => reg(r[1]),
             0x23 => reg(r[1]),
             _ => true,
@@ -203,6 +213,7 @@ impl<'a> Reader<'a> {
             let (place, r) = self.record(&[0x02])?;
             let words = u32::from(r[1]) + 256 * u32::from(r[2]);
             self.need((1..=1024).contains(&words), 4, place)?;
+            self.words.push(words);
         }
         for function in 0..self.funs {
             let (place, r) = self.record(&[0x03])?;
@@ -301,6 +312,11 @@ impl<'a> Reader<'a> {
                     }
                 }
             }
+            0x1b => {
+                env.regs[f[1]] = env.arrs[f[2]];
+                written = Some(r[1]);
+            }
+            0x1c => env.arrs[f[1]] = env.arrs[f[1]].max(env.regs[f[4]]),
             0x15 => {
                 for level in env.regs.iter_mut().filter(|level| **level == 1) {
                     *level = 0;
@@ -333,6 +349,7 @@ pub fn check(t: &[u8]) -> Result<usize, Fault> {
         regs: 0,
         arrs: 0,
         funs: 0,
+        words: vec![],
         ins: vec![],
         outs: vec![],
         starts: vec![],

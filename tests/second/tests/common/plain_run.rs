@@ -18,7 +18,7 @@ fn two(bytes: &[u8]) -> usize {
 fn length(kind: u8) -> usize {
     match kind {
         0x10 => 6,
-        0x11 | 0x12 => 5,
+        0x11 | 0x12 | 0x1b | 0x1c => 5,
         0x13 | 0x14 | 0x20 => 4,
         0x16 | 0x17 | 0x18 | 0x21 | 0x24 => 3,
         0x23 => 11,
@@ -111,9 +111,13 @@ pub fn run(t: &[u8], regs: &mut [u32], mem: &mut [u32], list: &[u8], obs: &mut [
         let access = match r[0] {
             0x13 => Some((usize::from(r[2]), reg(3))),
             0x14 => Some((usize::from(r[1]), reg(2))),
+            0x1b => Some((usize::from(r[2]), two(&r[3..]) as u32)),
+            0x1c => Some((usize::from(r[1]), two(&r[2..]) as u32)),
             _ => None,
         };
-        let out_of_range = access.map_or(false, |(array, index)| index as usize >= words[array]);
+        // A fixed index was read as in range: no stray access at 1B and 1C.
+        let out_of_range = matches!(r[0], 0x13 | 0x14)
+            && access.map_or(false, |(array, index)| index as usize >= words[array]);
         if out_of_range && !misspeculating {
             return stop(24);
         }
@@ -185,8 +189,9 @@ pub fn run(t: &[u8], regs: &mut [u32], mem: &mut [u32], list: &[u8], obs: &mut [
                 regs[usize::from(r[1])] = (full % (1 << 32)) as u32;
             }
             0x12 => regs[usize::from(r[1])] = if reg(2) != 0 { reg(3) } else { reg(4) },
-            0x13 => regs[usize::from(r[1])] = mem[touched.unwrap()],
+            0x13 | 0x1b => regs[usize::from(r[1])] = mem[touched.unwrap()],
             0x14 => mem[touched.unwrap()] = reg(3),
+            0x1c => mem[touched.unwrap()] = reg(4),
             0x15 => masked = false,
             0x16 => {
                 let holds = if r[2] == 1 { reg(1) != 0 } else { reg(1) == 0 };
