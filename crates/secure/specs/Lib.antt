@@ -1,3 +1,4 @@
 pub mod Demand3
 pub mod Examples
+pub mod Leak
 pub mod OneAnswer

@@ -1628,10 +1628,11 @@ fn set16(bytes: &mut [u8], at: usize, value: u16) {
     bytes[at..at + 2].copy_from_slice(&value.to_le_bytes());
 }
 
-/// Words of an array, by the table's bytes.
+/// Words of an array, by the table's bytes; 0 past their end, where a table that is damaged already may point.
 fn words_of(bytes: &[u8], array: u8) -> u16 {
     let at = SIZES_LENGTH + usize::from(array) * ARRAY_LENGTH;
-    u16::from_le_bytes([bytes[at + 1], bytes[at + 2]])
+    let byte = |at: usize| bytes.get(at).copied().unwrap_or(0);
+    u16::from_le_bytes([byte(at + 1), byte(at + 2)])
 }
 
 /// An index that is not below the array's words.
