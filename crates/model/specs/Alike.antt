@@ -10,7 +10,7 @@ use lib.Seq.{getD-set-other}
 use lib.Dec.{T, ltb, ltb→lt, lt→ltb}
 use native.Mathlib.Decide.{decLt}
 use native.Mathlib.Nat.{not-suc-le-zero}
-use Rattle.model.specs.Tests.{pick, put, same, test}
+use Rattle.model.specs.Tests.{pick, put, same, put-same, test}
 use Rattle.model.specs.Memory.{set-alike, disjoint}
 use Rattle.model.specs.Levels.{Env, Covers, Within}
 use Rattle.model.specs.Records.{SimpleReaches}
@@ -27,7 +27,7 @@ use Rattle.model.specs.declared.Simple.{Simple}
 use Rattle.model.specs.declared.Simple.the-variants.{Const, Op, Select, Load, Store, Init, Update, Protect, LoadFixed, StoreFixed}
 use Rattle.model.specs.declared.Record.{Record}
 use Rattle.model.specs.declared.Record.the-variants.{Do, Call, If, Else, Endif, While, Endwhile, Return}
-use Rattle.model.specs.Rules.{kill, settle, written, raised, beside, Needs, after}
+use Rattle.model.specs.Rules.{kill, settle, written, raised, spilled, beside, Needs, after}
 use Rattle.model.specs.Monotone.{settle-ind}
 use Rattle.model.specs.Machine.{Data, wordsOf, address, Work, halt, did, reg, wordAt, holds, wrote, stored, plain, byAccess, inRange, strayed, access, work}
 
@@ -133,33 +133,33 @@ module _ (t : Table) where
       → Works (written E d l) mis (plain dir (did (wrote x d v) Nothing)) (plain dir (did (wrote y d w) Nothing))
   write-works E mis x y h dir d l v w e = plain-works (written E d l) mis dir _ _ (refl, wrote-alike E mis x y h d l v w e)
 
-  -- word j of array b becomes register s, array a having been named: the other arrays' levels do not fall, and the word is seen
-  -- only if the register is
-  stored-alike : (E : Env) (mis : Bool) (x y : Data) → Alike t E mis x y → (others : ℕ → ℕ) (a s b j : ℕ) → ((c : ℕ) → E .arrays c ≤ others c) → j < wordsOf t b
-      → (put others a (max (E .arrays a) (E .regs s)) b ≤ top mis → E .regs s ≤ top mis)
-      → Alike t (raised E others a s) mis (stored t x b j (reg x s)) (stored t y b j (reg y s))
-  stored-alike E mis x y h others a s b j up g seen = record {
+  -- word j of array b becomes register s, array a having been named and raised to l: the other arrays' levels do not fall, and the
+  -- word is seen only if the register is
+  stored-alike : (E : Env) (mis : Bool) (x y : Data) → Alike t E mis x y → (others : ℕ → ℕ) (a l s b j : ℕ) → ((c : ℕ) → E .arrays c ≤ others c) → j < wordsOf t b
+      → (put others a (max (E .arrays a) l) b ≤ top mis → E .regs s ≤ top mis)
+      → Alike t (raised E others a l) mis (stored t x b j (reg x s)) (stored t y b j (reg y s))
+  stored-alike E mis x y h others a l s b j up g seen = record {
     flag₁ = h .flag₁;
     flag₂ = h .flag₂;
     wide₁ = h .wide₁;
     wide₂ = h .wide₂;
     long = same-length (x .mem) (y .mem) (address t b j) (reg x s) (reg y s) (h .long);
     regs = h .regs;
-    mem = λ c k m l. set-alike (x .mem) (y .mem) (address t b j) (reg x s) (reg y s) (address t c k) (h .long)
-        (λ q. h .regs s (seen (rw (← (disjoint (t .words) c k b j m g q)) l))) (λ _. h .mem c k m (le-trans (kept c) l));
+    mem = λ c k m p. set-alike (x .mem) (y .mem) (address t b j) (reg x s) (reg y s) (address t c k) (h .long)
+        (λ q. h .regs s (seen (rw (← (disjoint (t .words) c k b j m g q)) p))) (λ _. h .mem c k m (le-trans (kept c) p));
   }
     where
-      kept : (c : ℕ) → E .arrays c ≤ put others a (max (E .arrays a) (E .regs s)) c
-      kept c = same c a (λ z. E .arrays c ≤ pick z (max (E .arrays a) (E .regs s)) (others c)) (λ q. rw q (omega arith)) (λ _. up c)
+      kept : (c : ℕ) → E .arrays c ≤ put others a (max (E .arrays a) l) c
+      kept c = same c a (λ z. E .arrays c ≤ pick z (max (E .arrays a) l) (others c)) (λ q. rw q (omega arith)) (λ _. up c)
 
 -- ---- STORE and the other arrays
 beside-kept : (m l b v : ℕ) → v ≤ beside m l b v
 unfolding beside
-beside-kept m l b v = test (ltb b m) (λ x. v ≤ pick x (max v (min 1 l)) v) (λ _. omega arith) (λ _. le-refl v)
+beside-kept m l b v = test (ltb b m) (λ x. v ≤ pick x (max v (spilled l)) v) (λ _. omega arith) (λ _. le-refl v)
 
 beside-source : (m l b v : ℕ) → b < m → beside m l b v ≤ 0 → l ≤ 0
 unfolding beside
-beside-source m l b v k = test (ltb b m) (λ x. pick x (max v (min 1 l)) v ≤ 0 → l ≤ 0) (λ _ h. omega arith) (λ e. absurd (subst T e (lt→ltb b m k)))
+beside-source m l b v k = test (ltb b m) (λ x. pick x (max v (spilled l)) v ≤ 0 → l ≤ 0) (λ _ h. omega arith) (λ e. absurd (subst T e (lt→ltb b m k)))
 
 -- ---- the records
 module _ (t : Table) where
@@ -224,7 +224,7 @@ module _ (t : Table) where
 
         go : (z : Access) → Touches a mis z → Works t (after (t .arrays) (Store a i s) E) mis
             (byAccess z (λ b j. did (stored t x b j (reg x s)) (Address a (reg y i)))) (byAccess z (λ b j. did (stored t y b j (reg y s)) (Address a (reg y i))))
-        go (Word b j) f = (refl, stored-alike t E mis x y h others a s b j (λ c. beside-kept (t .arrays) (E .regs s) c (E .arrays c)) (f .1) (source b mis refl (f .0) (in-words t b j (f .1))))
+        go (Word b j) f = (refl, stored-alike t E mis x y h others a (E .regs s) s b j (λ c. beside-kept (t .arrays) (E .regs s) c (E .arrays c)) (f .1) (source b mis refl (f .0) (in-words t b j (f .1))))
         go (Bad k) f = refl
 
     update-works : (r : ℕ) (s : Bool) → E .status ≡ Outdated r s → Works t (after (t .arrays) (Update r s) E) mis (work t (Update r s) dir mis x) (work t (Update r s) dir mis y)
@@ -273,13 +273,13 @@ module _ (t : Table) where
 
     -- a fixed access touches the word that it names
     load-fixed-works : (d a i : ℕ) → i < wordsOf t a → Works t (after (t .arrays) (LoadFixed d a i) E) mis (work t (LoadFixed d a i) dir mis x) (work t (LoadFixed d a i) dir mis y)
-    load-fixed-works d a i k = plain-works t _ mis dir _ _ (refl, wrote-alike t E mis x y h d (E .arrays a) _ _ (h .mem a i k))
+    load-fixed-works d a i k = plain-works t _ mis dir _ _ (refl, wrote-alike t E mis x y h d _ _ _ (λ l. h .mem a i k (omega arith)))
 
     store-fixed-works : (a i s : ℕ) → i < wordsOf t a → Works t (after (t .arrays) (StoreFixed a i s) E) mis (work t (StoreFixed a i s) dir mis x) (work t (StoreFixed a i s) dir mis y)
-    store-fixed-works a i s k = plain-works t _ mis dir _ _ (refl, stored-alike t E mis x y h (E .arrays) a s a i (λ c. le-refl (E .arrays c)) k seen)
+    store-fixed-works a i s k = plain-works t _ mis dir _ _ (refl, stored-alike t E mis x y h (E .arrays) a _ s a i (λ c. le-refl (E .arrays c)) k seen)
       where
-        seen : put (E .arrays) a (max (E .arrays a) (E .regs s)) a ≤ top mis → E .regs s ≤ top mis
-        seen = same a a (λ z. pick z (max (E .arrays a) (E .regs s)) (E .arrays a) ≤ top mis → E .regs s ≤ top mis) (λ _ l. omega arith) (λ n. absurd (n refl))
+        seen : after (t .arrays) (StoreFixed a i s) E .arrays a ≤ top mis → E .regs s ≤ top mis
+        seen p = let q = subst (λ (l : ℕ). l ≤ top mis) (put-same (E .arrays) a _) p in omega arith
 
   init-works : (E : Env) (mis : Bool) (x y : Data) → Alike t E mis x y → (dir : Directive) → Works t (after (t .arrays) Init E) mis (work t Init dir mis x) (work t Init dir mis y)
   init-works E true x y h dir = refl

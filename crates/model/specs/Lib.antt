@@ -13,6 +13,7 @@ pub mod Walk
 pub mod Sites
 pub mod Memory
 pub mod Machine
+pub mod Fixed
 pub mod Passes
 pub mod Decide
 pub mod Typing

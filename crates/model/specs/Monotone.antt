@@ -11,7 +11,7 @@ use Rattle.model.specs.Levels.{Env, Covers, Within, join, within-refl, w
 use Rattle.model.specs.Records.{SimpleFits, Fits}
 use Rattle.model.specs.Packing.{envOf}
 use Rattle.model.specs.Table.{Table}
-use Rattle.model.specs.Rules.{kill, guardStatus, settle, written, guarded, beside, Needs, after, NeedsOf, afterOf, typing}
+use Rattle.model.specs.Rules.{kill, guardStatus, settle, written, raised, guarded, spilled, beside, Needs, after, NeedsOf, afterOf, typing}
 use Rattle.model.specs.Blocks.{Types, done, one, branch, loop}
 use Rattle.model.specs.declared.Status.{Status}
 use Rattle.model.specs.declared.Status.the-variants.{Unknown, Updated, Outdated}
@@ -45,7 +45,7 @@ settle-mono l m h = settle-ind l (λ x. x ≤ settle m) (λ p. omega arith) (λ 
 
 beside-mono : (n l m b v w : ℕ) → l ≤ m → v ≤ w → beside n l b v ≤ beside n m b w
 unfolding beside
-beside-mono n l m b v w p q = test (ltb b n) (λ x. pick x (max v (min 1 l)) v ≤ pick x (max w (min 1 m)) w) (λ _. omega arith) (λ _. q)
+beside-mono n l m b v w p q = test (ltb b n) (λ x. pick x (max v (spilled l)) v ≤ pick x (max w (spilled m)) w) (λ _. omega arith) (λ _. q)
 
 module _ (n m : ℕ) (E F : Env) (w : Within n m E F) where
   written-mono : (d l k : ℕ) → l ≤ k → Within n m (written E d l) (written F d k)
@@ -53,6 +53,13 @@ module _ (n m : ℕ) (E F : Env) (w : Within n m E F) where
     status = kill-mono d (E .status) (F .status) (w .status);
     regs = λ i p. same i d (λ b. pick b l (E .regs i) ≤ pick b k (F .regs i)) (λ _. h) (λ _. w .regs i p);
     arrays = w .arrays;
+  }
+
+  raised-mono : (others others′ : ℕ → ℕ) (a l k : ℕ) → a < m → ((b : ℕ) → b < m → others b ≤ others′ b) → l ≤ k → Within n m (raised E others a l) (raised F others′ a k)
+  raised-mono others others′ a l k q up h = record {
+    status = w .status;
+    regs = w .regs;
+    arrays = λ b p. same b a (λ x. pick x (max (E .arrays a) l) (others b) ≤ pick x (max (F .arrays a) k) (others′ b)) (λ _. omega (arith, w .arrays a q)) (λ _. up b p);
   }
 
   guarded-mono : (r : ℕ) (s : Bool) → Within n m (guarded E r s) (guarded F r s)
@@ -78,12 +85,7 @@ module _ (n m : ℕ) (E F : Env) (w : Within n m E F) where
   after-mono (Op d o l r) f = written-mono d _ _ (omega (arith, w .regs l (f .2), w .regs r (f .3)))
   after-mono (Select d c y k) f = written-mono d _ _ (omega (arith, w .regs c (f .1), w .regs y (f .2), w .regs k (f .3)))
   after-mono (Load d a i) f = written-mono d _ _ (omega (arith, w .arrays a (f .1)))
-  after-mono (Store a i s) f = record {
-    status = w .status;
-    regs = w .regs;
-    arrays = λ b l. same b a (λ x. pick x (max (E .arrays a) (E .regs s)) (beside m (E .regs s) b (E .arrays b)) ≤ pick x (max (F .arrays a) (F .regs s)) (beside m (F .regs s) b (F .arrays b)))
-        (λ _. omega (arith, w .arrays a (f .0), w .regs s (f .2))) (λ _. beside-mono m (E .regs s) (F .regs s) b (E .arrays b) (F .arrays b) (w .regs s (f .2)) (w .arrays b l));
-  }
+  after-mono (Store a i s) f = raised-mono _ _ a _ _ (f .0) (λ b l. beside-mono m (E .regs s) (F .regs s) b (E .arrays b) (F .arrays b) (w .regs s (f .2)) (w .arrays b l)) (omega (arith, w .regs s (f .2)))
   after-mono Init f = record { status = refl; regs = λ i l. settle-mono (E .regs i) (F .regs i) (w .regs i l); arrays = w .arrays }
   after-mono (Update r s) f = record { status = refl; regs = w .regs; arrays = w .arrays }
   after-mono (Protect d s) f = record {
@@ -91,13 +93,8 @@ module _ (n m : ℕ) (E F : Env) (w : Within n m E F) where
     regs = λ i l. same i d (λ b. pick b (settle (E .regs s)) (E .regs i) ≤ pick b (settle (F .regs s)) (F .regs i)) (λ _. settle-mono (E .regs s) (F .regs s) (w .regs s (f .1))) (λ _. w .regs i l);
     arrays = w .arrays;
   }
-  after-mono (LoadFixed d a i) f = written-mono d _ _ (w .arrays a (f .1))
-  after-mono (StoreFixed a i s) f = record {
-    status = w .status;
-    regs = w .regs;
-    arrays = λ b l. same b a (λ x. pick x (max (E .arrays a) (E .regs s)) (E .arrays b) ≤ pick x (max (F .arrays a) (F .regs s)) (F .arrays b))
-        (λ _. omega (arith, w .arrays a (f .0), w .regs s (f .1))) (λ _. w .arrays b l);
-  }
+  after-mono (LoadFixed d a i) f = written-mono d _ _ (omega (arith, w .arrays a (f .1)))
+  after-mono (StoreFixed a i s) f = raised-mono _ _ a _ _ (f .0) (w .arrays) (omega (arith, w .regs s (f .1)))
 
 join-mono : (n m : ℕ) (E E′ F F′ : Env) → Within n m E F → Within n m E′ F′ → Within n m (join E E′) (join F F′)
 join-mono n m E E′ F F′ w v =

@@ -39,25 +39,29 @@ callStatus false s = Unknown
 unfoldable pub settle : ℕ → ℕ
 settle l = pick (leb l 1) 0 l
 
--- beside an array into which level l is stored: array b of m, at level v. A public one becomes transient if l is not public
+-- what a store of level l may leave where it strays to: transient, if l is not public
+abbrev pub spilled : ℕ → ℕ
+spilled l = min 1 l
+
+-- beside an array into which level l is stored: array b of m, at level v
 unfoldable pub beside : ℕ → ℕ → ℕ → ℕ → ℕ
-beside m l b v = pick (ltb b m) (max v (min 1 l)) v
+beside m l b v = pick (ltb b m) (max v (spilled l)) v
 
 -- register d is written, at level l
 abbrev pub written : Env → ℕ → ℕ → Env
 written E d l = record { status = kill d (E .status); regs = put (E .regs) d l; arrays = E .arrays }
 
--- "the named array gets the larger of its level and the source's"; the levels of the others are given
+-- "the named array gets the larger of its level and the source's", l; the others get the levels given
 abbrev pub raised : Env → (ℕ → ℕ) → ℕ → ℕ → Env
-raised E others a s = record { status = E .status; regs = E .regs; arrays = put others a (max (E .arrays a) (E .regs s)) }
+raised E others a l = record { status = E .status; regs = E .regs; arrays = put others a (max (E .arrays a) l) }
 
 -- register s is stored into array a of m
 abbrev pub stored : ℕ → Env → ℕ → ℕ → Env
-stored m E a s = raised E (λ b. beside m (E .regs s) b (E .arrays b)) a s
+stored m E a s = raised E (λ b. beside m (E .regs s) b (E .arrays b)) a (E .regs s)
 
 -- order 1: register s is stored into array a at a fixed place
 abbrev pub storedFixed : Env → ℕ → ℕ → Env
-storedFixed E a s = raised E (E .arrays) a s
+storedFixed E a s = raised E (E .arrays) a (E .regs s)
 
 -- INIT
 abbrev pub fenced : Env → Env

@@ -42,6 +42,9 @@ same i d P f g = go (eqb i d) refl
     go true e = f (eqb→eq i d (rw e tt))
     go false e = g (λ h. subst T e (subst (λ (j : ℕ). T (eqb i j)) h (eqb-refl i)))
 
+pub put-same : (f : ℕ → ℕ) (d v : ℕ) → put f d v d ≡ v
+put-same f d v = same d d (λ b. pick b v (f d) ≡ v) (λ _. refl) (λ n. absurd (n refl))
+
 -- whatever is said of what a test picks
 pub pick-ind : {A : Type 0} (P : A → Type 0) (b : Bool) {x y : A} → (b ≡ true → P x) → (b ≡ false → P y) → P (pick b x y)
 pick-ind P true h k = h refl

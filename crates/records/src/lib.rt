@@ -13,7 +13,8 @@ use model::Sizes;
 ghost use mathlib.Core.Path.{_≡_};
 ghost use Prim.Native.Nat.{_+_, _≤_, _<_};
 ghost use lib.ListN.{length};
-ghost use Rattle.format.specs.Format.{codeLength, decodeAt, rowAt};
+ghost use lib.Dec.{ltb};
+ghost use Rattle.format.specs.Format.{codeLength, wordsAt, decodeAt, rowAt};
 
 // The length of a record of code, the kind byte counted; 0 where no code has that kind.
 pub fn code_length(kind: u8) -> usize
@@ -217,7 +218,13 @@ fn read_call(t: &[u8], at: usize, z: Sizes) -> Decoded
     )
 }
 
-// The index of a fixed access is tested here, so that no run can stray from it.
+// Array a has word i. The index of a fixed access is tested here, so that no run can stray from it.
+fn has_word(t: &[u8], z: Sizes, a: u8, i: usize) -> bool
+    ensures { λ r. ⌜ r ≡ ltb i (wordsAt z (now (t .entry)) a) ⌝ }
+{
+    i < words_at(t, z, a)
+}
+
 fn read_load_fixed(t: &[u8], at: usize, z: Sizes) -> Decoded
     requires { ⌜ at + 5 ≤ length (now t) ⌝ }
     ensures { λ r. ⌜ r ≡ rowAt 27 z (now (t .entry)) at ⌝ }
@@ -225,14 +232,13 @@ fn read_load_fixed(t: &[u8], at: usize, z: Sizes) -> Decoded
     let dest = t[at + 1];
     let array = t[at + 2];
     let index = place_at(t, at + 3);
-    let words = words_at(t, z, array);
     if z.registers <= dest {
         return Decoded::Bad(4, at);
     }
     if z.arrays <= array {
         return Decoded::Bad(4, at);
     }
-    if words <= index {
+    if !has_word(t, z, array, index) {
         return Decoded::Bad(4, at);
     }
     Decoded::Got(
@@ -252,11 +258,10 @@ fn read_store_fixed(t: &[u8], at: usize, z: Sizes) -> Decoded
     let array = t[at + 1];
     let index = place_at(t, at + 2);
     let source = t[at + 4];
-    let words = words_at(t, z, array);
     if z.arrays <= array {
         return Decoded::Bad(4, at);
     }
-    if words <= index {
+    if !has_word(t, z, array, index) {
         return Decoded::Bad(4, at);
     }
     if z.registers <= source {

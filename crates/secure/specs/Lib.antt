@@ -1,4 +1,5 @@
 pub mod Demand3
 pub mod Examples
 pub mod Leak
+pub mod Hash
 pub mod OneAnswer

@@ -165,7 +165,7 @@ fn after_load_fixed(e: Env, dest: u8, array: u8) -> Env
 // The named array raised to the source's level, beside the others at the levels given.
 fn raised_env(e: Env, others: [u8; 16], array: u8, source: u8) -> Env
     requires { ⌜ array < 16 ⌝ }
-    ensures { λ r. ⌜ viewEnv r ≡ raised (viewEnv e) (levels others) array source ⌝ }
+    ensures { λ r. ⌜ viewEnv r ≡ raised (viewEnv e) (levels others) array (viewEnv e .regs source) ⌝ }
 {
     let registers = e.registers;
     let a = e.arrays;
