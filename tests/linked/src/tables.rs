@@ -46,11 +46,21 @@ fn filled(before: &str, phrase: &str, after: &str, bytes: usize) -> Vec<u8> {
     passing(&[before, &phrase.repeat(times), after].concat())
 }
 
-/// Straight code: every record that opens no block.
+/// Straight code: every record that opens no block, but the fixed accesses.
 pub fn straight(bytes: usize) -> Vec<u8> {
     filled(
         "sizes 8 2 1\narray 16\narray 16\nsignature unknown PPPPPPPP/TS unknown SSSSSSSS/SS\ninit\n",
         "const r0 3\nload r1 a0[r0]\nprotect r2 r1\nadd r3 r2 r0\nselect r4 r3 r2 r1\nstore a1[r0] r4\nxor r5 r4 r3\n",
+        "return\n",
+        bytes,
+    )
+}
+
+/// Fixed accesses and nothing else.
+pub fn fixed(bytes: usize) -> Vec<u8> {
+    filled(
+        "sizes 2 2 1\narray 16\narray 16\nsignature unknown PP/PP unknown SS/SS\n",
+        "load r0 a0[3]\nstore a1[15] r0\n",
         "return\n",
         bytes,
     )
@@ -127,6 +137,18 @@ pub fn many_accesses() -> RunCase {
     let table = passing(&format!(
         "sizes 3 8 1\n{}signature unknown PPP/SSSSSSSS unknown SSS/SSSSSSSS\nconst r2 15\nwhile r2 unknown PSP/SSSSSSSS\n\
          load r1 a7[r0]\nstore a6[r0] r1\nload r1 a5[r0]\nstore a7[r0] r1\nendwhile\nreturn\n",
+        arrays
+    ));
+    let turn = [kind::BRANCH, 1, 0x60, 0x60, 0x60, 0x60, 0x60];
+    run_with(table, list_of(&[kind::PLAIN], &turn))
+}
+
+/// The same accesses at fixed places.
+pub fn fixed_accesses() -> RunCase {
+    let arrays = "array 16\n".repeat(8);
+    let table = passing(&format!(
+        "sizes 3 8 1\n{}signature unknown PPP/SSSSSSSS unknown SSS/SSSSSSSS\nconst r2 15\nwhile r2 unknown PSP/SSSSSSSS\n\
+         load r1 a7[0]\nstore a6[0] r1\nload r1 a5[0]\nstore a7[0] r1\nendwhile\nreturn\n",
         arrays
     ));
     let turn = [kind::BRANCH, 1, 0x60, 0x60, 0x60, 0x60, 0x60];

@@ -2,6 +2,7 @@
 
 use crate::answer::{alike, After, Answer};
 use crate::case::Case;
+use second::gen::records;
 use second::{Outcome, Verdict};
 use std::collections::BTreeMap;
 use std::fmt;
@@ -12,6 +13,12 @@ const PASS: u8 = 0;
 const DUE_IN_CHECKS: &[u8] = &[PASS, 1, 2, 3, 4, 5, 6, 7, 8, 9, 10, 11, 12, 13, 14];
 const DUE_IN_RUNS: &[u8] = &[1, 2, 3, 4, 5, 6, 7, 8, 9, 15, 16, 20, 21, 22, 23, 24, 25, 26];
 
+/// The kinds of record that tables which pass must have.
+const DUE_KINDS: &[u8] = &[
+    0x01, 0x02, 0x03, 0x10, 0x11, 0x12, 0x13, 0x14, 0x15, 0x16, 0x17, 0x18, 0x1b, 0x1c, 0x20, 0x21,
+    0x22, 0x23, 0x24, 0x25,
+];
+
 /// How often each number came up.
 type Counts = BTreeMap<u8, u64>;
 
@@ -20,6 +27,7 @@ pub struct Tally {
     pub cases: u64,
     sorts: BTreeMap<&'static str, (u64, Counts)>,
     checks: Counts,
+    kinds: Counts,
     runs: Counts,
     steps: u64,
     misspeculating: u64,
@@ -41,6 +49,11 @@ impl Tally {
                 };
                 *self.checks.entry(number).or_default() += 1;
                 self.came_up(sort, number);
+                if let (PASS, Case::Check { table }) = (number, case) {
+                    for (_, kind) in records(table) {
+                        *self.kinds.entry(kind).or_default() += 1;
+                    }
+                }
             }
             Answer::Shown(_) => {}
             Answer::Run(after) => self.ran(sort, after),
@@ -82,6 +95,8 @@ impl Tally {
         };
         let mut missing = never(&self.checks, DUE_IN_CHECKS, "a check");
         missing.extend(never(&self.runs, DUE_IN_RUNS, "a run"));
+        let kinds = DUE_KINDS.iter().filter(|kind| !self.kinds.contains_key(kind));
+        missing.extend(kinds.map(|kind| format!("kind {:02X} in a table that passes", kind)));
         for &(count, what) in &[
             (self.misspeculating, "a run that ends misspeculating"),
             (self.masked, "a run that ends with the flag masked"),
@@ -113,6 +128,11 @@ impl fmt::Display for Tally {
             }
             writeln!(f)?;
         }
+        write!(f, "records of tables that pass:")?;
+        for (kind, count) in &self.kinds {
+            write!(f, "  {:02X} x{}", kind, count)?;
+        }
+        writeln!(f)?;
         writeln!(
             f,
             "{} steps, {} runs that end misspeculating, {} with the flag masked; {} pairs with different secrets, {} pairs of \

@@ -25,12 +25,59 @@ fn the_examples_are_answered_alike() {
     let folder = concat!(env!("CARGO_MANIFEST_DIR"), "/../examples");
     let mut count = 0;
     for file in std::fs::read_dir(folder).expect("tests/examples is there") {
-        let table = std::fs::read(file.expect("a file").path()).expect("it can be read");
+        let path = file.expect("a file").path();
+        if path.extension() != Some("table".as_ref()) {
+            continue;
+        }
+        let table = std::fs::read(path).expect("it can be read");
         let case = Case::Check { table };
         assert!(compared(&case, &Rattle, &Second).is_ok(), "{}", case.text());
         count += 1;
     }
-    assert!(count >= 15, "{} tables", count);
+    assert!(count >= 18, "{} tables", count);
+}
+
+/// Document 02, order 1: the hash by LOAD is refused, by LOAD FIXED it passes.
+#[test]
+fn hashes_with_round_constants() {
+    let by_load = include_bytes!("../../examples/hash-load.table");
+    let by_fixed = include_bytes!("../../examples/hash-fixed.table");
+    assert_eq!(linked::check(by_load), Verdict::Refused { number: 10, place: 49 });
+    assert_eq!(linked::check(by_fixed), Verdict::Accepted { functions: 1, bytes: 166 });
+    let mut memory =
+        [2, 0, 3, 1, 0x428a_2f98, 0x7137_4491, 0xb5c0_fbcf, 0xe9b5_dba5, 1, 2, 3, 4, 0];
+    let (mut registers, mut observations) = ([0; 4], [0; 200]);
+    let outcome =
+        linked::run(by_fixed, &mut registers, &mut memory, &[0x60; 27], &mut observations);
+    let stopped = Outcome::Stopped {
+        number: 21,
+        place: 165,
+        steps: 27,
+        misspeculating: false,
+        masked: false,
+    };
+    assert_eq!(outcome, stopped);
+    let digest =
+        [3, 1, 4, 2].iter().zip(&memory[4..8]).fold(0x6a09_e667_u32, |state, (word, by)| {
+            (state ^ word).wrapping_mul(*by).wrapping_add(*word)
+        });
+    assert_eq!(memory[12], digest);
+}
+
+/// What a STORE that raises only the array it names would let out: the proved check refuses the table, and the proved machine shows the
+/// secret that such a check would have let through.
+#[test]
+fn the_leak_is_refused_and_real() {
+    let table = include_bytes!("../../examples/store-leak.table");
+    assert_eq!(linked::check(table), Verdict::Refused { number: 10, place: 43 });
+    let shown = |secret: u32| {
+        let list = [0x61, 0, 0x62, 1, 0, 0, 0x60, 0x62, 0, 0, 0, 0x60];
+        let mut observations = [0; 21];
+        linked::run(table, &mut [1, secret], &mut [0, 0], &list, &mut observations);
+        observations
+    };
+    assert_eq!(shown(5)[14..20], [0x72, 0, 5, 0, 0, 0]);
+    assert_eq!(shown(6)[14..20], [0x72, 0, 6, 0, 0, 0]);
 }
 
 /// Document 01's marked case 4.

@@ -204,6 +204,7 @@ fn checks(plan: &Plan, sized: &[(usize, Vec<Vec<u8>>)]) {
     let padded = gen::padded(gen::good(1), 32 * KB);
     for (name, table) in [
         ("straight code, 32 KB", tables::straight(32 * KB)),
+        ("fixed accesses, 32 KB", tables::fixed(32 * KB)),
         ("nested 16 deep, 32 KB", tables::nested(32 * KB)),
         ("32 functions of calls, 32 KB", tables::calling(32 * KB)),
         ("padded with CONST, 32 KB", padded),
@@ -246,6 +247,7 @@ fn long_runs() -> Vec<(&'static str, RunCase)> {
     vec![
         ("one long loop", tables::long_loop()),
         ("loads and stores, 8 arrays", tables::many_accesses()),
+        ("fixed accesses, 8 arrays", tables::fixed_accesses()),
         ("stray accesses, 8 arrays", tables::stray_accesses()),
         ("wrong returns, 1 KB", tables::wrong_returns(KB)),
         ("wrong returns, 32 KB", tables::wrong_returns(32 * KB)),
