@@ -362,6 +362,14 @@ fn selected(regs: &[u32], cond: u8, yes: u8, no: u8) -> u32
     choose(c, get(regs, yes as usize), get(regs, no as usize))
 }
 
+// The value that PROTECT gives its dest.
+fn shielded(s: State, regs: &[u32], source: u8) -> u32
+    ensures { λ r. ⌜ r ≡ pick (s .masked) 4294967295 (getD (now (regs .entry)) source 0) ⌝ }
+{
+    let masked = s.masked;
+    choose(masked, 4294967295, get(regs, source as usize))
+}
+
 fn simple(
     t: &[u8],
     z: Sizes,
@@ -404,11 +412,7 @@ fn simple(
             let held = condition(get(regs, register as usize), sense);
             updated(s, next, dir, held)
         }
-        Simple::Protect { dest, source } => {
-            let masked = s.masked;
-            let v = choose(masked, 4294967295, get(regs, source as usize));
-            write(s, next, dir, dest, v)
-        }
+        Simple::Protect { dest, source } => write(s, next, dir, dest, shielded(s, regs, source)),
         Simple::LoadFixed { dest, array, index } => {
             load_fixed(t, z, s, next, dir, mem, dest, array, index)
         }
