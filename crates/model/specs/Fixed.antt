@@ -1,10 +1,11 @@
 -- Order 1, "access at a fixed place" (document 02), sentence by sentence, of the definitions in Rules and Machine.
 use Prim.Native.Nat.{ℕ, _<_}
-use mathlib.Core.Path.{_≡_, refl}
+use mathlib.Core.Path.{_≡_, refl, subst}
 use mathlib.Core.Bool.{Bool, true, false}
 use borrow.Author.Tests.{lt-ltb, eq-eqb, ne-eqb}
 use Rattle.model.specs.Levels.{Env}
 use Rattle.model.specs.Table.{Table}
+use Rattle.model.specs.Records.{Reaches}
 use Rattle.model.specs.Rules.{kill, after}
 use Rattle.model.specs.Machine.{Data, reg, wordsOf, wordAt, wrote, stored, halt, did, access, work}
 use Rattle.model.specs.declared.Status.the-variants.{Unknown, Outdated}
@@ -12,6 +13,7 @@ use Rattle.model.specs.declared.Directive.{Directive}
 use Rattle.model.specs.declared.Directive.the-variants.{Plain, Branch, Stray, Back}
 use Rattle.model.specs.declared.Observation.the-variants.{Address}
 use Rattle.model.specs.declared.Simple.the-variants.{Load, Store, LoadFixed, StoreFixed}
+use Rattle.model.specs.declared.Record.the-variants.{Do}
 
 -- "LOAD FIXED gives dest the array's own level"
 pub load-fixed-level : (m d a i : ℕ) (E : Env) → after m (LoadFixed d a i) E .regs d ≡ E .arrays a
@@ -38,7 +40,14 @@ module _ (t : Table) where
   pub store-fixed-plain : (a i s : ℕ) (mis : Bool) (x : Data) → work t (StoreFixed a i s) Plain mis x ≡ did (stored t x a i (reg x s)) (Address a i)
   store-fixed-plain a i s mis x = refl
 
-  -- "a stray access cannot occur": 62 is the wrong kind of directive, whatever word it names
+  -- "The index is checked at reading, so a stray access cannot occur": the word that a record of a table names lies in its array
+  pub load-fixed-lies : (p d a i : ℕ) → t .rec p ≡ Do (LoadFixed d a i) → i < wordsOf t a
+  load-fixed-lies p d a i e = subst (Reaches (t .words)) e (t .reaches p)
+
+  pub store-fixed-lies : (p a i s : ℕ) → t .rec p ≡ Do (StoreFixed a i s) → i < wordsOf t a
+  store-fixed-lies p a i s e = subst (Reaches (t .words)) e (t .reaches p)
+
+  -- and 62 is the wrong kind of directive, whatever word it names
   pub fixed-never-strays : (d a i s b j : ℕ) (mis : Bool) (x : Data) → (work t (LoadFixed d a i) (Stray b j) mis x ≡ halt 22) × (work t (StoreFixed a i s) (Stray b j) mis x ≡ halt 22)
   fixed-never-strays d a i s b j mis x = (refl, refl)
 
