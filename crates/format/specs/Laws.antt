@@ -73,10 +73,11 @@ words-in z t (suc n) b (suc a) l = let e : b + suc a ≡ suc b + a = omega arith
 pub words-first : (z : Sizes) (t : List ℕ) (n a : ℕ) → a < n → getD (wordsFrom z t n 0) a 0 ≡ wordsAt z t a
 words-first z t n a l = words-in z t n 0 a l ∙ ap (wordsAt z t) (zero-add a)
 
--- a row has its kind, and where its tests hold its fields are in range
+-- the fields are in range, by the table's sizes and its arrays' words
 abbrev Ranged : Sizes → List ℕ → Record → Type 0
 Ranged z t r = Fits (z .registers) (z .arrays) r × Reaches (wordsFrom z t (z .arrays) 0) r
 
+-- a row has its kind, and where its tests hold its fields are in range
 abbrev RowFits : Sizes → List ℕ → ℕ → Row → Type 0
 RowFits z t at r = (Trues (r .1) → Ranged z t (r .2)) × (kindOf (r .2) ≡ r .0) × Names t at (r .2)
 

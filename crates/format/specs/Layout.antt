@@ -1,7 +1,7 @@
 -- Document 01, "Table layout": the whole table. Sizes, the arrays, the signatures, then the functions in order, touching.
 use Prim.Native.Nat.{ℕ, zero, suc, _+_, _-_, _*_}
 use mathlib.Core.Path.{_≡_, refl, subst, sym}
-use mathlib.Core.List.{List, [], _∷_}
+use mathlib.Core.List.{List}
 use mathlib.Core.Bool.{Bool, true, false}
 use lib.ListN.{length, getD}
 use lib.Dec.{eqb}
@@ -16,7 +16,7 @@ use Rattle.model.specs.declared.Record.{Record}
 use Rattle.model.specs.declared.Record.the-variants.{Return}
 use Rattle.format.specs.declared.Decoded.{Decoded}
 use Rattle.format.specs.declared.Decoded.the-variants.{Got, Bad}
-use Rattle.format.specs.Format.{byte, word16, packedAt, arrayPlace, wordsAt, wordsFrom, decodeAt}
+use Rattle.format.specs.Format.{byte, word16, packedAt, arrayPlace, wordsFrom, decodeAt}
 use Rattle.format.specs.Laws.{good}
 
 -- bytes 1 to 3

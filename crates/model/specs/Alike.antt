@@ -1,5 +1,5 @@
 -- Two data states that an environment allows side by side, and each record's work on them.
-use Prim.Native.Nat.{ℕ, _≤_, _<_, max, min, zero-le}
+use Prim.Native.Nat.{ℕ, _≤_, _<_, max, zero-le}
 use native.Mathlib.Omega.{arith}
 use native.Mathlib.Nat.{le-refl, le-trans}
 use mathlib.Core.Path.{_≡_, refl, sym, _∙_, subst}

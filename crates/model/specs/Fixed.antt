@@ -1,7 +1,7 @@
 -- Order 1, "access at a fixed place" (document 02), sentence by sentence, of the definitions in Rules and Machine.
 use Prim.Native.Nat.{ℕ, _<_}
 use mathlib.Core.Path.{_≡_, refl, subst}
-use mathlib.Core.Bool.{Bool, true, false}
+use mathlib.Core.Bool.{Bool}
 use borrow.Author.Tests.{lt-ltb, eq-eqb, ne-eqb}
 use Rattle.model.specs.Levels.{Env}
 use Rattle.model.specs.Table.{Table}
@@ -47,9 +47,18 @@ module _ (t : Table) where
   pub store-fixed-lies : (p a i s : ℕ) → t .rec p ≡ Do (StoreFixed a i s) → i < wordsOf t a
   store-fixed-lies p a i s e = subst (Reaches (t .words)) e (t .reaches p)
 
-  -- and 62 is the wrong kind of directive, whatever word it names
-  pub fixed-never-strays : (d a i s b j : ℕ) (mis : Bool) (x : Data) → (work t (LoadFixed d a i) (Stray b j) mis x ≡ halt 22) × (work t (StoreFixed a i s) (Stray b j) mis x ≡ halt 22)
-  fixed-never-strays d a i s b j mis x = (refl, refl)
+  -- and any directive but 60 is the wrong kind, 62 too, whatever word it names
+  pub load-fixed-else : (d a i : ℕ) (dir : Directive) (mis : Bool) (x : Data) → (dir ≡ Plain → ⊥) → work t (LoadFixed d a i) dir mis x ≡ halt 22
+  load-fixed-else d a i Plain mis x n = absurd (n refl)
+  load-fixed-else d a i (Branch b) mis x n = refl
+  load-fixed-else d a i (Stray b j) mis x n = refl
+  load-fixed-else d a i (Back q) mis x n = refl
+
+  pub store-fixed-else : (a i s : ℕ) (dir : Directive) (mis : Bool) (x : Data) → (dir ≡ Plain → ⊥) → work t (StoreFixed a i s) dir mis x ≡ halt 22
+  store-fixed-else a i s Plain mis x n = absurd (n refl)
+  store-fixed-else a i s (Branch b) mis x n = refl
+  store-fixed-else a i s (Stray b j) mis x n = refl
+  store-fixed-else a i s (Back q) mis x n = refl
 
   -- a fixed access is LOAD or STORE of an index in range, under every directive
   pub load-fixed-is-load : (d a r : ℕ) (dir : Directive) (mis : Bool) (x : Data) → reg x r < wordsOf t a → work t (LoadFixed d a (reg x r)) dir mis x ≡ work t (Load d a r) dir mis x

@@ -1,5 +1,5 @@
 -- Every rule is monotone: a lower environment types wherever a higher one does, and ends lower.
-use Prim.Native.Nat.{ℕ, _≤_, _<_, max, min}
+use Prim.Native.Nat.{ℕ, _≤_, _<_, max}
 use native.Mathlib.Omega.{arith}
 use native.Mathlib.Nat.{le-refl}
 use mathlib.Core.Path.{_≡_, refl, subst}

@@ -52,6 +52,12 @@ SameRan obs₁ obs₂ (ran (Stopped s) r₁ m₁ o₁) (ran (Refused k q) r₂ m
 SameRan obs₁ obs₂ (ran (Stopped s) r₁ m₁ o₁) (ran (Stopped u) r₂ m₂ o₂) =
     (s .number ≡ u .number) × (s .place ≡ u .place) × (s .steps ≡ u .steps) × (s .mis ≡ u .mis) × ((bytes : List ℕ) × (o₁ ≡ sets obs₁ 0 bytes) × (o₂ ≡ sets obs₂ 0 bytes))
 
+-- ---- DEMAND 3, of a notion of passing
+abbrev pub Demand3 : (List ℕ → Type 0) → Type 0
+Demand3 Passes =
+    (t regs₁ mem₁ regs₂ mem₂ dirs obs₁ obs₂ : List ℕ) → Passes t → Starts t regs₁ mem₁ regs₂ mem₂ → length obs₁ ≡ length obs₂
+    → SameRan obs₁ obs₂ (runAt t regs₁ mem₁ dirs obs₁) (runAt t regs₂ mem₂ dirs obs₂)
+
 module _ (t regs₁ mem₁ regs₂ mem₂ dirs obs₁ obs₂ : List ℕ) where
   shown-same : (u v : Final) → SameShown u v → SameRan obs₁ obs₂ (ranFrom obs₁ 0 0 u) (ranFrom obs₂ 0 0 v)
   shown-same (final j n c x os) (final k m d y ps) (e₁, e₂, e₃, e₄) =
@@ -86,10 +92,9 @@ module _ (t regs₁ mem₁ regs₂ mem₂ dirs obs₁ obs₂ : List ℕ) where
         (shown-same (from regs₁ mem₁ (length obs₁)) (from regs₂ mem₂ (length obs₁))
         (secure (tableOf t) (known t (sizesOf t) reads) typed false (record { regs = regs₁; mem = mem₁; masked = false }) (record { regs = regs₂; mem = mem₂; masked = false }) agree (directivesOf dirs) (length obs₁)))
 
-    -- THE THEOREM
-    pub demand-3 : SameRan obs₁ obs₂ (runAt t regs₁ mem₁ dirs obs₁) (runAt t regs₂ mem₂ dirs obs₂)
+    both-same : SameRan obs₁ obs₂ (runAt t regs₁ mem₁ dirs obs₁) (runAt t regs₂ mem₂ dirs obs₂)
     unfolding runAt
-    demand-3 = rw (
+    both-same = rw (
       reads,
       eq-eqb (length regs₁) (sizesOf t .registers) (starts .wide₁),
       eq-eqb (length regs₂) (sizesOf t .registers) (starts .wide₂),
@@ -97,3 +102,7 @@ module _ (t regs₁ mem₁ regs₂ mem₂ dirs obs₁ obs₂ : List ℕ) where
       eq-eqb (length mem₂) (total (wordsFrom (sizesOf t) t (sizesOf t .arrays) 0)) (starts .long₂),
     )
         (listed-same (listAt dirs) (started (sizesOf t) t regs₁ mem₁ dirs obs₁) (started (sizesOf t) t regs₂ mem₂ dirs obs₂) started-same)
+
+-- THE THEOREM: it holds of the check
+pub demand-3 : Demand3 (λ t. Pass t (checkAt t))
+demand-3 t regs₁ mem₁ regs₂ mem₂ dirs obs₁ obs₂ pass starts equal = both-same t regs₁ mem₁ regs₂ mem₂ dirs obs₁ obs₂ pass starts equal

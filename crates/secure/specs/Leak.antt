@@ -2,17 +2,15 @@
 -- a stray store into an array that is still called public would come back as a public value: of such a rule demand 3 is false.
 use Prim.Native.Nat.{ℕ, zero, suc, _<_, _≤_}
 use native.Mathlib.Omega.{arith}
-use native.Mathlib.Nat.{le-refl}
-use mathlib.Core.Path.{_≡_, refl, sym, ap, subst, _∙_}
+use mathlib.Core.Path.{_≡_, refl, sym, ap, _∙_}
 use mathlib.Core.Bool.{true, false}
 use mathlib.Core.List.{List, [], _∷_}
 use lib.ListN.{length, getD, replicate}
-use lib.Seq.{sets}
 use Rattle.model.specs.Tests.{below}
 use Rattle.model.specs.Levels.{Env, join, joinStatus, sameStatus, within, within-is}
 use Rattle.model.specs.Packing.{slot, levelsIn, packedIn}
 use Rattle.model.specs.Table.{Table, entry}
-use Rattle.model.specs.Blocks.{Rules, Types, TypesFunction, Every, done, one, branch}
+use Rattle.model.specs.Blocks.{Rules, TypesFunction, Every, done, one, branch}
 use Rattle.model.specs.Rules.{kill, guardStatus, callStatus, settle, beside, guarded, after, afterOf, typing}
 use Rattle.model.specs.Walk.{blockWith as typeBlock, instrAt as typeInstr, functionAt as typeFunction}
 use Rattle.model.specs.Typing.{typeFrom}
@@ -28,23 +26,12 @@ use Rattle.format.specs.Head.{sizesAt, arrayAt, signatureAt, arraysAt, signatur
 use Rattle.format.specs.Layout.{recordOf, returnOf, tableOf}
 use Rattle.reading.specs.Reading.{allowed, recordAt, callAt, ifWith, whileWith, blockWith, instrAt, blockAt, functionAt, functionsAt, partsAt, readAt}
 use Rattle.typing.specs.Check.{checkAt}
-use Rattle.typing.specs.Checked.{Readable, Pass}
+use Rattle.typing.specs.Checked.{Readable}
 use Rattle.typing.specs.declared.Verdict.the-variants.{Refused}
 use Rattle.machine.specs.Directives.{branchAt, strayAt, backAt, directiveAt, listFrom, listAt, directivesFrom, allBytes}
 use Rattle.machine.specs.Runs.{Ran, ran, total, runAt}
-use Rattle.machine.specs.declared.Stop.{Stop}
 use Rattle.machine.specs.declared.Outcome.the-variants.{Stopped}
-use Rattle.secure.specs.Demand3.{Starts, SameRan, demand-3}
-
--- demand 3, of any notion of passing
-abbrev pub Demand3 : (List ℕ → Type 0) → Type 0
-Demand3 Passes =
-    (t regs₁ mem₁ regs₂ mem₂ dirs obs₁ obs₂ : List ℕ) → Passes t → Starts t regs₁ mem₁ regs₂ mem₂ → length obs₁ ≡ length obs₂
-    → SameRan obs₁ obs₂ (runAt t regs₁ mem₁ dirs obs₁) (runAt t regs₂ mem₂ dirs obs₂)
-
--- it holds of the check
-pub of-the-check : Demand3 (λ t. Pass t (checkAt t))
-of-the-check = demand-3
+use Rattle.secure.specs.Demand3.{Starts, SameRan, Demand3}
 
 -- ---- THE WRONG RULE: 01's, but that a STORE is typed as STORE FIXED is
 abbrev pub asFixed : Simple → Simple
@@ -95,7 +82,7 @@ NamedPasses t = Readable t × Every (tableOf t) (namedOnly (tableOf t))
 abbrev pub leak : List ℕ
 leak = 1 ∷ 2 ∷ 2 ∷ 1 ∷ 2 ∷ 1 ∷ 0 ∷ 2 ∷ 1 ∷ 0 ∷ 3 ∷ 27 ∷ 0 ∷ 0 ∷ 8 ∷ 0 ∷ 0 ∷ 0 ∷ 0 ∷ 0 ∷ 0 ∷ 10 ∷ 0 ∷ 0 ∷ 0 ∷ 6 ∷ 0 ∷ 32 ∷ 0 ∷ 31 ∷ 0 ∷ 33 ∷ 47 ∷ 0 ∷ 20 ∷ 0 ∷ 0 ∷ 1 ∷ 27 ∷ 0 ∷ 1 ∷ 0 ∷ 0 ∷ 19 ∷ 0 ∷ 0 ∷ 0 ∷ 34 ∷ 37 ∷ []
 
--- the check refuses it: the second LOAD's index is transient
+-- the check refuses it: the LOAD's index is transient
 pub refused : checkAt leak ≡ Refused 10 43
 unfolding below slot levelsIn packedIn joinStatus sameStatus within kill guardStatus callStatus settle beside rowAt decodeAt sizesAt arrayAt signatureAt arraysAt signaturesAt wordsFrom recordOf returnOf allowed recordAt callAt ifWith whileWith blockWith instrAt blockAt functionAt functionsAt partsAt readAt typeBlock typeInstr typeFunction typeFrom checkAt
 refused = refl

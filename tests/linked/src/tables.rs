@@ -46,7 +46,7 @@ fn filled(before: &str, phrase: &str, after: &str, bytes: usize) -> Vec<u8> {
     passing(&[before, &phrase.repeat(times), after].concat())
 }
 
-/// Straight code: every record that opens no block, but the fixed accesses.
+/// Straight code: CONST, OP, SELECT, LOAD, STORE and PROTECT over and over, after an INIT.
 pub fn straight(bytes: usize) -> Vec<u8> {
     filled(
         "sizes 8 2 1\narray 16\narray 16\nsignature unknown PPPPPPPP/TS unknown SSSSSSSS/SS\ninit\n",

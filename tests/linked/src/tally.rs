@@ -3,6 +3,7 @@
 use crate::answer::{alike, After, Answer};
 use crate::case::Case;
 use second::gen::records;
+use second::table::record_length;
 use second::{Outcome, Verdict};
 use std::collections::BTreeMap;
 use std::fmt;
@@ -12,12 +13,6 @@ const PASS: u8 = 0;
 /// What must come up before a comparison counts.
 const DUE_IN_CHECKS: &[u8] = &[PASS, 1, 2, 3, 4, 5, 6, 7, 8, 9, 10, 11, 12, 13, 14];
 const DUE_IN_RUNS: &[u8] = &[1, 2, 3, 4, 5, 6, 7, 8, 9, 15, 16, 20, 21, 22, 23, 24, 25, 26];
-
-/// The kinds of record that tables which pass must have.
-const DUE_KINDS: &[u8] = &[
-    0x01, 0x02, 0x03, 0x10, 0x11, 0x12, 0x13, 0x14, 0x15, 0x16, 0x17, 0x18, 0x1b, 0x1c, 0x20, 0x21,
-    0x22, 0x23, 0x24, 0x25,
-];
 
 /// How often each number came up.
 type Counts = BTreeMap<u8, u64>;
@@ -95,7 +90,8 @@ impl Tally {
         };
         let mut missing = never(&self.checks, DUE_IN_CHECKS, "a check");
         missing.extend(never(&self.runs, DUE_IN_RUNS, "a run"));
-        let kinds = DUE_KINDS.iter().filter(|kind| !self.kinds.contains_key(kind));
+        let kinds = (0..=u8::MAX).filter(|&kind| record_length(kind).is_some());
+        let kinds = kinds.filter(|kind| !self.kinds.contains_key(kind));
         missing.extend(kinds.map(|kind| format!("kind {:02X} in a table that passes", kind)));
         for &(count, what) in &[
             (self.misspeculating, "a run that ends misspeculating"),

@@ -7,7 +7,7 @@ use common::{asm, naive, plain_run};
 use second::gen::{self, Rng, Rules};
 use second::pairs::{pair, Pair};
 use second::table::Instr;
-use second::typing::Env;
+use second::typing::{Env, PUBLIC};
 use second::{check, message, run, Outcome, Verdict};
 
 fn agrees(table: &[u8], seed: u64) -> Verdict {
@@ -59,8 +59,8 @@ fn damaged_tables_fail_as_due() {
 
 /// How often good tables have LOAD FIXED of each level, and STORE FIXED of each
 /// source into each array, before a function's first block or CALL (where the
-/// environment is easily followed); how often a public LOAD FIXED is an index or
-/// guard soon after.
+/// environment is easily followed); how often what the last LOAD FIXED of a public
+/// array gave is made an index (by an AND) or a guard before it is written over.
 #[test]
 fn good_tables_have_fixed_accesses() {
     let mut loads = [0; 3];
@@ -78,17 +78,23 @@ fn good_tables_have_fixed_accesses() {
                 place += length;
                 match instr {
                     Instr::LoadFixed { dest, array, .. } => {
-                        loads[usize::from(env.array(array))] += 1;
-                        fixed = Some(dest);
+                        let level = env.array(array);
+                        loads[usize::from(level)] += 1;
+                        fixed = if level == PUBLIC { Some(dest) } else { None };
                     }
                     Instr::StoreFixed { array, source, .. } => {
                         let held = usize::from(env.array(array));
                         stores[usize::from(env.register(source))][held] += 1;
                     }
                     // An index after an AND with it, or a guard.
-                    Instr::Op { op: 4, left, right, .. } => {
-                        used += u32::from(fixed == Some(left) || fixed == Some(right));
+                    Instr::Op { dest, op, left, right } => {
+                        let takes = fixed == Some(left) || fixed == Some(right);
+                        used += u32::from(op == 4 && takes);
+                        fixed = fixed.filter(|&of| of != dest);
                     }
+                    Instr::Const { dest, .. }
+                    | Instr::Select { dest, .. }
+                    | Instr::Load { dest, .. } => fixed = fixed.filter(|&of| of != dest),
                     Instr::If { register, .. } => used += u32::from(fixed == Some(register)),
                     _ => {}
                 }
