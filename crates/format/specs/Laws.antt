@@ -75,7 +75,7 @@ words-first z t n a l = words-in z t n 0 a l ∙ ap (wordsAt z t) (zero-add a)
 
 -- the fields are in range, by the table's sizes and its arrays' words
 abbrev Ranged : Sizes → List ℕ → Record → Type 0
-Ranged z t r = Fits (z .registers) (z .arrays) r × Reaches (wordsFrom z t (z .arrays) 0) r
+Ranged z t r = Fits (z .registers) (z .arrays) (z .functions) r × Reaches (wordsFrom z t (z .arrays) 0) r
 
 -- a row has its kind, and where its tests hold its fields are in range
 abbrev RowFits : Sizes → List ℕ → ℕ → Row → Type 0
@@ -108,7 +108,7 @@ rows-fit z t at =
                   (
                     (λ w. ((lt 1 n (w .0), lt 2 n (w .1 .0)), tt), refl, tt),
                     (
-                      (λ w. (tt, tt), refl, tt),
+                      (λ w. (lt 1 (z .functions) (w .0), tt), refl, tt),
                       (
                         (λ w. ((lt 1 n (w .0), lt 2 m (w .1 .0)), word 2 3 (lt 2 m (w .1 .0)) (w .1 .1 .0)), refl, tt),
                         (
@@ -120,7 +120,7 @@ rows-fit z t at =
                               (
                                 (λ w. (tt, tt), refl, tt),
                                 (
-                                  (λ w. (lt 1 n (w .0), tt), refl, refl),
+                                  (λ w. ((lt 1 n (w .0), w .1 .0), tt), refl, refl),
                                   (
                                     (λ w. (tt, tt), refl, refl),
                                     (
@@ -147,7 +147,7 @@ rows-fit z t at =
 -- what is known of a decoded record: its kind, that it is in range and whole in the table, and where the next one is due
 pub record Good (z : Sizes) (t : List ℕ) (at : ℕ) (r : Record) (n : ℕ) : Type 0 where
   pub kind : kindOf r ≡ byte t at
-  pub fits : Fits (z .registers) (z .arrays) r
+  pub fits : Fits (z .registers) (z .arrays) (z .functions) r
   pub reaches : Reaches (wordsFrom z t (z .arrays) 0) r
   pub names : Names t at r
   pub next : n ≡ at + lengthOf r

@@ -53,11 +53,11 @@ unfolding wordsFrom
 words-count z t zero a = refl
 words-count z t (suc n) a = rw (words-count z t n (suc a))
 
-pub record-fits : (z : Sizes) (t : List ℕ) (p : ℕ) → Fits (z .registers) (z .arrays) (recordOf z t p)
+pub record-fits : (z : Sizes) (t : List ℕ) (p : ℕ) → Fits (z .registers) (z .arrays) (z .functions) (recordOf z t p)
 unfolding recordOf
 record-fits z t p = go (decodeAt z t p) refl
   where
-    go : (d : Decoded) → decodeAt z t p ≡ d → Fits (z .registers) (z .arrays) (recordFrom d)
+    go : (d : Decoded) → decodeAt z t p ≡ d → Fits (z .registers) (z .arrays) (z .functions) (recordFrom d)
     go (Got r n) e = good z t p e .fits
     go (Bad n q) e = tt
 

@@ -5,6 +5,7 @@ pub mod Records
 pub mod Table
 pub mod Blocks
 pub mod Rules
+pub mod Words
 pub mod Monotone
 pub mod Flow
 pub mod Places
@@ -17,6 +18,7 @@ pub mod Fixed
 pub mod Passes
 pub mod Decide
 pub mod Typing
+pub mod Whole
 pub mod OneFault
 pub mod Code
 pub mod Scans

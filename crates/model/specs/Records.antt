@@ -1,8 +1,11 @@
 -- Document 01, "Table layout": the records of code, decoded.
 use Prim.Native.Nat.{ℕ, _≤_, _<_}
+use mathlib.Core.Path.{_≡_}
+use mathlib.Core.Bool.{true}
 use mathlib.Core.List.{List}
 use lib.ListN.{getD}
 use native.Mathlib.Omega.{arith}
+use Rattle.model.specs.Packing.{packedIn}
 use Rattle.model.specs.declared.Simple.{Simple}
 use Rattle.model.specs.declared.Simple.the-variants.{Const, Op, Select, Load, Store, Init, Update, Protect, LoadFixed, StoreFixed}
 use Rattle.model.specs.declared.Record.{Record}
@@ -89,15 +92,16 @@ SimpleFits n m (Protect d s) = (d < n) × (s < n)
 SimpleFits n m (LoadFixed d a i) = (d < n) × (a < m)
 SimpleFits n m (StoreFixed a i s) = (a < m) × (s < n)
 
-abbrev pub Fits : ℕ → ℕ → Record → Type 0
-Fits n m (Do s) = SimpleFits n m s
-Fits n m (Call f k) = Unit {0}
-Fits n m (If r e) = r < n
-Fits n m (Else e) = Unit {0}
-Fits n m Endif = Unit {0}
-Fits n m (While r e L) = r < n
-Fits n m (Endwhile w) = Unit {0}
-Fits n m Return = Unit {0}
+-- .. and of k functions; a loop environment has levels in the table's slots and nothing beside them
+abbrev pub Fits : ℕ → ℕ → ℕ → Record → Type 0
+Fits n m k (Do s) = SimpleFits n m s
+Fits n m k (Call f b) = f < k
+Fits n m k (If r e) = r < n
+Fits n m k (Else e) = Unit {0}
+Fits n m k Endif = Unit {0}
+Fits n m k (While r e L) = (r < n) × (packedIn n m L ≡ true)
+Fits n m k (Endwhile w) = Unit {0}
+Fits n m k Return = Unit {0}
 
 -- an index that stands in the record is below its array's words (fault 4 too)
 abbrev pub SimpleReaches : List ℕ → Simple → Type 0

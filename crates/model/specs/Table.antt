@@ -15,9 +15,9 @@ pub record Table : Type 0 where
   pub arrays : ℕ
   pub words : List ℕ  -- the words of each array
   pub counted : length words ≡ arrays
-  pub fits : (p : ℕ) → Fits registers arrays (rec p)
-  pub reaches : (p : ℕ) → Reaches words (rec p)
   pub functions : ℕ
+  pub fits : (p : ℕ) → Fits registers arrays functions (rec p)
+  pub reaches : (p : ℕ) → Reaches words (rec p)
   pub start : ℕ → ℕ  -- of a function: its first place
   pub ret : ℕ → ℕ  -- of a function: its RETURN
   pub enter : ℕ → Env  -- of a function: its in-environment

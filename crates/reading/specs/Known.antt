@@ -20,6 +20,7 @@ use Rattle.model.specs.declared.Sizes.{Sizes}
 use Rattle.model.specs.declared.Status.the-variants.{Unknown}
 use Rattle.format.specs.Format.{byte, word16, packedAt, arrayPlace}
 use Rattle.format.specs.Head.{then, sizesAt, arrayAt, signatureAt, arraysAt, signaturesAt}
+use Rattle.format.specs.Laws.{trues}
 use Rattle.format.specs.Layout.{sizesOf, signaturePlace, inOf, tableOf}
 use Rattle.format.specs.declared.To.{To}
 use Rattle.format.specs.declared.To.the-variants.{At, Fault as Off}
@@ -63,9 +64,13 @@ module _ (t : List ℕ) where
       go (At p) e ih = move p (arraysAt t n p) e (ih p)
       go (Off a b) e ih = tt
 
+  -- the two environments of a signature at `at` have levels in the table's slots, and nothing beside them
+  abbrev pub Packs : ℕ → Type 0
+  Packs at = (packedIn (z .registers) (z .arrays) (packedAt t (at + 3)) ≡ true) × (packedIn (z .registers) (z .arrays) (packedAt t (at + 10)) ≡ true)
+
   -- a signature that n others follow: the next one is due 17 bytes on, and the entry's in status byte is 0
   abbrev Signed : ℕ → ℕ → To → Type 0
-  Signed n at (At p) = (p ≡ at + 17) × (n ≡ 0 → byte t (at + 3) ≡ 0)
+  Signed n at (At p) = (p ≡ at + 17) × Packs at × (n ≡ 0 → byte t (at + 3) ≡ 0)
   Signed n at (Off k p) = Unit {0}
 
   signature-signs : (n at : ℕ) → Signed n at (signatureAt z t n at)
@@ -75,7 +80,8 @@ module _ (t : List ℕ) where
       pick-ind (Signed n at) (leb (length t) at) (λ _. tt) (λ _. pick-ind (Signed n at) (eqb (byte t at) 3)
       (λ _. pick-ind (Signed n at) (ltb (length t - at) 17) (λ _. tt)
       (λ _. pick-ind (Signed n at) (all (fits (at + 3) ∷ fits (at + 10) ∷ []))
-      (λ _. pick-ind (Signed n at) (all (eqb n 0 ∷ leb 1 (byte t (at + 3)) ∷ [])) (λ _. tt) (λ h. (refl, clear n (byte t (at + 3)) h)))
+      (λ f. let w = trues (fits (at + 3) ∷ fits (at + 10) ∷ []) f in
+      pick-ind (Signed n at) (all (eqb n 0 ∷ leb 1 (byte t (at + 3)) ∷ [])) (λ _. tt) (λ h. (refl, (w .0, w .1 .0), clear n (byte t (at + 3)) h)))
       (λ _. tt))) (λ _. tt))
     where
       clear : (n b : ℕ) → all (eqb n 0 ∷ leb 1 b ∷ []) ≡ false → n ≡ 0 → b ≡ 0
@@ -86,29 +92,33 @@ module _ (t : List ℕ) where
           go (no q) = let k : all (eqb n 0 ∷ leb 1 b ∷ []) ≡ true = rw (eq-eqb n 0 e, le-leb 1 b (omega arith)) in absurd (true≢false (sym k ∙ h))
 
   abbrev AllSigned : ℕ → ℕ → To → Type 0
-  AllSigned n at (At p) = (1 ≤ n → byte t (at + 17 * (n - 1) + 3) ≡ 0)
+  AllSigned n at (At p) = (1 ≤ n → byte t (at + 17 * (n - 1) + 3) ≡ 0) × ((f : ℕ) → f < n → Packs (at + 17 * f))
   AllSigned n at (Off k p) = Unit {0}
 
   signatures-sign : (n at : ℕ) → AllSigned n at (signaturesAt z t n at)
   unfolding signaturesAt
-  signatures-sign zero at = λ l. absurd (omega arith)
+  signatures-sign zero at = (λ l. absurd (omega arith), λ f l. absurd (omega arith))
   signatures-sign (suc n) at = go (signatureAt z t n at) (signature-signs n at) (signatures-sign n)
     where
-      more : (p : ℕ) (w : To) → p ≡ at + 17 → (n ≡ 0 → byte t (at + 3) ≡ 0) → AllSigned n p w → AllSigned (suc n) at w
-      more p (Off a b) e f h = tt
-      more p (At q) e f h = λ _. last (native.Mathlib.Decide.ℕ-discrete n 0)
+      more : (p : ℕ) (w : To) → p ≡ at + 17 → Packs at → (n ≡ 0 → byte t (at + 3) ≡ 0) → AllSigned n p w → AllSigned (suc n) at w
+      more p (Off a b) e s f h = tt
+      more p (At q) e s f h = (λ _. last (native.Mathlib.Decide.ℕ-discrete n 0), each)
         where
           last : Dec (n ≡ 0) → byte t (at + 17 * (suc n - 1) + 3) ≡ 0
           last (yes k) = let d : at + 17 * (suc n - 1) + 3 ≡ at + 3 = omega arith in ap (byte t) d ∙ f k
-          last (no k) = let d : at + 17 * (suc n - 1) + 3 ≡ p + 17 * (n - 1) + 3 = omega arith in ap (byte t) d ∙ h (omega arith)
+          last (no k) = let d : at + 17 * (suc n - 1) + 3 ≡ p + 17 * (n - 1) + 3 = omega arith in ap (byte t) d ∙ h .0 (omega arith)
+
+          each : (g : ℕ) → g < suc n → Packs (at + 17 * g)
+          each zero l = let d : at + 17 * 0 ≡ at = omega arith in rw d s
+          each (suc g) l = let d : at + 17 * suc g ≡ p + 17 * g = omega arith in rw d (h .1 g (omega arith))
 
       go : (w : To) → Signed n at w → ((p : ℕ) → AllSigned n p (signaturesAt z t n p)) → AllSigned (suc n) at (then w (signaturesAt z t n))
-      go (At p) (e, f) ih = more p (signaturesAt z t n p) e f (ih p)
+      go (At p) (e, s, f) ih = more p (signaturesAt z t n p) e s f (ih p)
       go (Off a b) s ih = tt
 
-  -- the entry's in status is unknown
+  -- the entry's in status is unknown, and every signature's environments are levels
   abbrev Fresh : To → Type 0
-  Fresh (At p) = 1 ≤ z .functions → byte t (signaturePlace z (z .functions - 1) + 3) ≡ 0
+  Fresh (At p) = (1 ≤ z .functions → byte t (signaturePlace z (z .functions - 1) + 3) ≡ 0) × ((f : ℕ) → f < z .functions → Packs (signaturePlace z f))
   Fresh (Off n p) = Unit {0}
 
   rest-fresh : (w v : To) (f : ℕ → To) → w ≡ v → AllSigned (z .functions) (4 + 3 * z .arrays) v → Fresh (then v f)
@@ -135,7 +145,7 @@ module _ (t : List ℕ) where
       first (Off a b) e = tt
 
   abbrev AnswerFresh : Answer → Type 0
-  AnswerFresh (Reads y) = 1 ≤ z .functions → byte t (signaturePlace z (z .functions - 1) + 3) ≡ 0
+  AnswerFresh (Reads y) = (1 ≤ z .functions → byte t (signaturePlace z (z .functions - 1) + 3) ≡ 0) × ((f : ℕ) → f < z .functions → Packs (signaturePlace z f))
   AnswerFresh (Refused n p) = Unit {0}
 
   answered-fresh : (w : To) → Fresh w → AnswerFresh (answered z w)
@@ -146,6 +156,10 @@ module _ (t : List ℕ) where
   unfolding readAt
   answer-fresh = pick-ind AnswerFresh (ltb 32768 (length t)) (λ _. tt) (λ _. answered-fresh (partsAt z t) parts-fresh)
 
+  -- the environments of every signature: no slot is 3, and unused slots are 0
+  pub signed : (y : Sizes) → readAt t ≡ Reads y → (f : ℕ) → f < z .functions → Packs (signaturePlace z f)
+  signed y e = subst AnswerFresh e answer-fresh .1
+
   -- WHAT READING FOUND OUT
   pub known : (y : Sizes) → readAt t ≡ Reads y → Known (tableOf t)
   known y e =
@@ -153,7 +167,7 @@ module _ (t : List ℕ) where
       let some-function : 1 ≤ z .functions = l .1 .some-function in
       let blocks : Every (tableOf t) reading = λ g k. all-read t y e g k .blocks in
       let last : entry (tableOf t) < z .functions = omega arith in
-      let status = subst AnswerFresh e answer-fresh some-function in
+      let status = subst AnswerFresh e answer-fresh .0 some-function in
       record {
         some-function = last;
         fresh = rw status;

@@ -1,4 +1,4 @@
-pub mod Slots
+pub mod Packed
 pub mod Statuses
 pub mod Turns
 pub mod Ready

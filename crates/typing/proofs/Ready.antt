@@ -1,9 +1,11 @@
--- A table that reads is ready for the walk.
-use Prim.Native.Nat.{ℕ}
+-- A table that reads is ready for the walk, at any place and nesting.
+use Prim.Native.Nat.{ℕ, _≤_}
 use native.Mathlib.Omega.{arith}
 use mathlib.Core.Path.{_≡_}
 use mathlib.Core.List.{List}
 use Rattle.model.specs.declared.Sizes.{Sizes}
+use Rattle.model.specs.Whole.{packed-whole}
+use Rattle.reading.specs.Known.{signed}
 use Rattle.reading.specs.Limits.{read-limits}
 use Rattle.reading.specs.Reading.{readAt}
 use Rattle.reading.specs.declared.Answer.the-variants.{Reads}
@@ -13,8 +15,12 @@ pub ready : (t : List ℕ) (z : Sizes) → readAt t ≡ Reads z → Ready z t 0 
 ready t z e =
     let w = read-limits t z e in
     rw (w .0) record {
+      signed = λ f l. let s = signed t z e f l in (packed-whole _ _ _ (s .0), packed-whole _ _ _ (s .1));
       small = record { registers = w .1 .registers; arrays = omega (arith, w .1 .arrays) };
       short = w .2;
       near = omega arith;
       shallow = omega arith;
     }
+
+pub moved : {z : Sizes} {t : List ℕ} {at depth p d : ℕ} → Ready z t at depth → p ≤ 100000 → d ≤ 16 → Ready z t p d
+moved r n s = record { small = r .small; signed = r .signed; short = r .short; near = n; shallow = s }

@@ -12,6 +12,7 @@ use Rattle.model.specs.Levels.{Env as Environment, within}
 use Rattle.model.specs.Packing.{envOf}
 use Rattle.model.specs.Rules.{after, returned, guarded, typing}
 use Rattle.model.specs.Typing.{typeFrom, onPass}
+use Rattle.model.specs.Whole.{Whole, Where, guarded-whole, record-whole, block-whole}
 use Rattle.model.specs.Walk.{Walked as Walking, Next as Onward, Shut as Closed, Fault as Halt, onNext, onShut, instrWith, blockWith, inside, instr-at, functionAt}
 use Rattle.model.specs.Decide.{meets, simpleNumber, typingTests}
 use Rattle.model.specs.declared.Sizes.{Sizes}
@@ -27,7 +28,7 @@ use Rattle.format.specs.Format.{decodeAt}
 use Rattle.format.specs.Layout.{recordFrom, recordOf, inOf, outOf, startOf}
 use Rattle.format.specs.declared.Decoded.the-variants.{Got, Bad}
 use Rattle.typing.specs.declared.Walk.{Walk}
-use Rattle.typing.specs.Envs.{viewEnv}
+use Rattle.typing.specs.Envs.{viewEnv, Fit, Ready}
 use Rattle.typing.specs.Walks.{going, viewWalk, Close, bare, simpleWalk, backWalk, joinWalk, callWalk, table, size, recordWalk, blockWalk, ifWalk, whileWalk, functionWalk}
 use Rattle.typing.specs.Bounds.{Ok, OkBlock, record-ok, block-walk-ok}
 
@@ -45,9 +46,20 @@ simple-on z s at next E {F} m f = subst (λ (b : Bool). Onward next F ≡ pick b
 pub simple-out : (z : Sizes) (s : Simple) (at next : ℕ) (E : Environment) {n : ℕ} → meets s E ≡ false → n ≡ simpleNumber s → Halt n at ≡ simpleWalk z s at next E
 simple-out z s at next E {n} m f = subst (λ (b : Bool). Halt n at ≡ pick b (Onward next (after (z .arrays) s E)) (Halt (simpleNumber s) at)) (sym m) (ap (λ (k : ℕ). Halt k at) f)
 
+-- what holds where a walk shut
+pub at-shut : (P : Environment → Type 0) (w : Walk) {p : ℕ} → w .to ≡ Shut p → Where P (viewWalk w) → P (viewEnv (w .env))
+at-shut P w e h = subst (λ (x : Walked). Where P (going x (viewEnv (w .env)))) e h
+
+-- entering a block
+pub guarded-fit : (z : Sizes) (E : Environment) (r : ℕ) (s : Bool) {F : Environment} → Fit z E → F ≡ guarded E r s → Fit z F
+guarded-fit z E r s f e = subst (Fit z) (sym e) (guarded-whole (z .registers) (z .arrays) E f r s)
+
 -- a test whether an environment is within one that stands packed
-pub within-packed : (z : Sizes) (E : Environment) (L : Packed) {K : Environment} {b c : Bool} → b ≡ within (z .registers) (z .arrays) E K → K ≡ envOf L → b ≡ c → within (z .registers) (z .arrays) E (envOf L) ≡ c
-within-packed z E L w k q = ap (λ (F : Environment). within (z .registers) (z .arrays) E F) (sym k) ∙ sym w ∙ q
+pub within-packed : (z : Sizes) (E : Environment) (L : Packed) {K : Environment} {b c : Bool} → Fit z E → Fit z (envOf L)
+    → ((n m : ℕ) → Whole n m E → Whole n m K → b ≡ within n m E K) → K ≡ envOf L → b ≡ c → within (z .registers) (z .arrays) E (envOf L) ≡ c
+within-packed z E L f g w k q =
+    ap (λ (F : Environment). within (z .registers) (z .arrays) E F) (sym k)
+    ∙ sym (w (z .registers) (z .arrays) f (subst (Fit z) (sym k) g)) ∙ q
 
 -- the end of a loop's body
 pub back-on : (z : Sizes) (r : ℕ) (L : Packed) (p : ℕ) (E : Environment) {F : Environment} → within (z .registers) (z .arrays) E (envOf L) ≡ true → F ≡ guarded (envOf L) r false → Onward (p + 3) F ≡ backWalk z r L (Closed p E)
@@ -107,6 +119,14 @@ module _ (z : Sizes) (t : List ℕ) where
       → backWalk z r L (blockWalk z t (d - 1) (size z t) (at + 11) (guarded (envOf L) r true)) ≡ whileWalk z t d at r L E
   while-is zero at r L E h k n = absurd (n refl)
   while-is (suc d) at r L E h k n = rw (h, k, sub-one) refl
+
+  -- every environment that the walk meets keeps to the table's slots
+  module _ {p q : ℕ} (r : Ready z t p q) where
+    pub next-fit : (d at : ℕ) (E : Environment) {n : ℕ} {F : Environment} → Fit z E → recordWalk z t d at E ≡ Onward n F → Fit z F
+    next-fit d at E f e = subst (Where (Fit z)) e (record-whole (table z t) (λ g l. r .signed g l .1) d (size z t) at E f)
+
+    pub walk-fit : (d k at : ℕ) (E : Environment) (w : Walk) → Fit z E → viewWalk w ≡ blockWalk z t d k at E → Where (Fit z) (viewWalk w)
+    walk-fit d k at E w f e = subst (Where (Fit z)) (sym e) (block-whole (table z t) (λ g l. r .signed g l .1) d (size z t) k at E f)
 
   -- where a block is shut
   pub shut-near : (d k at : ℕ) (E : Environment) {p : ℕ} {F : Environment} → blockWalk z t d k at E ≡ Closed p F → p ≤ max at (length t + 4 * d)

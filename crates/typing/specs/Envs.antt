@@ -1,16 +1,24 @@
 -- What the checker's environment stands for: the level in each slot. Only this file and its functions know how it is kept.
 use Prim.Native.Nat.{ℕ, _<_, _≤_}
 use mathlib.Core.List.{List}
-use lib.ListN.{length, getD}
+use lib.ListN.{length}
 use Rattle.model.specs.Levels.{Env as Environment}
+use Rattle.model.specs.Packing.{slot, envOf}
+use Rattle.model.specs.Whole.{Whole}
 use Rattle.model.specs.declared.Sizes.{Sizes}
+use Rattle.format.specs.Layout.{inOf, outOf}
 use Rattle.typing.specs.declared.Env.{Env}
 
-abbrev pub levels : List ℕ → ℕ → ℕ
-levels xs i = getD xs i 0
-
 abbrev pub viewEnv : Env → Environment
-viewEnv e = record { status = e .status; regs = levels (e .registers); arrays = levels (e .arrays) }
+viewEnv e = record { status = e .status; regs = slot (e .registers); arrays = slot (e .arrays) }
+
+-- no slot is 3, and the slots that the table does not use are 0
+abbrev pub Fit : Sizes → Environment → Type 0
+Fit z = Whole (z .registers) (z .arrays)
+
+-- .. of both environments in the signature of f
+abbrev pub Signed : Sizes → List ℕ → ℕ → Type 0
+Signed z t f = Fit z (envOf (inOf z t f)) × Fit z (envOf (outOf z t f))
 
 -- the sizes fit the slots
 pub record Small (z : Sizes) : Type 0 where
@@ -20,6 +28,7 @@ pub record Small (z : Sizes) : Type 0 where
 -- a table that has been read, a place not far beyond it, a nesting within the limit
 pub record Ready (z : Sizes) (t : List ℕ) (at depth : ℕ) : Type 0 where
   pub small : Small z
+  pub signed : (f : ℕ) → f < z .functions → Signed z t f
   pub short : length t ≤ 32768
   pub near : at ≤ 100000
   pub shallow : depth ≤ 16

@@ -1,5 +1,4 @@
 pub mod Envs
-pub mod Changes
 pub mod Walks
 pub mod Bounds
 pub mod Check

@@ -1,18 +1,16 @@
 // Environments: within, join, and what a block's entry, a call and a packed environment make of them.
 use crate::Env;
-use crate::levels::Change;
-use crate::levels::each;
-use crate::levels::levels_within;
-use crate::levels::unpack_levels;
+use levels::join_levels;
+use levels::levels_within;
 use model::Packed;
-use model::Sizes;
 use model::Status;
 ghost use mathlib.Core.Path.{_≡_};
-ghost use Prim.Native.Nat.{_<_};
+ghost use Prim.Native.Nat.{ℕ};
 ghost use Rattle.model.specs.Levels.{joinStatus, sameStatus, covers, join, within};
 ghost use Rattle.model.specs.Packing.{statusOf, envOf};
 ghost use Rattle.model.specs.Rules.{kill, guardStatus, callStatus, guarded, returned};
-ghost use Rattle.typing.specs.Envs.{levels, viewEnv, Small};
+ghost use Rattle.model.specs.Whole.{Whole, NoThrees};
+ghost use Rattle.typing.specs.Envs.{viewEnv};
 
 // Equal statuses.
 pub(crate) fn same_status(a: Status, b: Status) -> bool
@@ -116,13 +114,13 @@ fn status_of(b: u8) -> Status
     Status::Unknown
 }
 
-// What seven bytes mean.
+// What seven bytes mean. The words go over as they are.
 pub(crate) fn unpack(p: Packed) -> Env
     ensures { λ r. ⌜ viewEnv r ≡ envOf p ⌝ }
 {
     let status = status_of(p.status);
-    let registers = unpack_levels(p.registers);
-    let arrays = unpack_levels(p.arrays);
+    let registers = p.registers;
+    let arrays = p.arrays;
     Env {
         status,
         registers,
@@ -130,39 +128,31 @@ pub(crate) fn unpack(p: Packed) -> Env
     }
 }
 
-// e is within f.
-pub(crate) fn env_within(z: Sizes, e: Env, f: Env) -> bool
-    requires { ⌜ Small z ⌝ }
-    ensures { λ r. ⌜ r ≡ within (z .registers) (z .arrays) (viewEnv e) (viewEnv f) ⌝ }
+// e is within f, over any number of slots that both keep to.
+pub(crate) fn env_within(e: Env, f: Env) -> bool
+    ensures { λ r. ⌜ ((n m : ℕ) → Whole n m (viewEnv e) → Whole n m (viewEnv f) → r ≡ within n m (viewEnv e) (viewEnv f)) ⌝ }
 {
     let s = e.status;
     let u = f.status;
     if !covers_status(s, u) {
         return false;
     }
-    let a = e.registers;
-    let b = f.registers;
-    if !levels_within(z.registers, a, b) {
+    if !levels_within(e.registers, f.registers) {
         return false;
     }
-    let c = e.arrays;
-    let d = f.arrays;
-    levels_within(z.arrays, c, d)
+    levels_within(e.arrays, f.arrays)
 }
 
 // The larger level slot by slot; equal statuses stay, others become unknown.
 pub(crate) fn join_envs(e: Env, f: Env) -> Env
+    requires { ⌜ NoThrees (viewEnv e) × NoThrees (viewEnv f) ⌝ }
     ensures { λ r. ⌜ viewEnv r ≡ join (viewEnv e) (viewEnv f) ⌝ }
 {
     let s = e.status;
     let u = f.status;
     let status = join_status(s, u);
-    let a = e.registers;
-    let b = f.registers;
-    let registers = each(Change::Join, a, b);
-    let c = e.arrays;
-    let d = f.arrays;
-    let arrays = each(Change::Join, c, d);
+    let registers = join_levels(e.registers, f.registers);
+    let arrays = join_levels(e.arrays, f.arrays);
     Env {
         status,
         registers,

@@ -7,15 +7,15 @@ ghost use mathlib.Core.Path.{_≡_};
 ghost use Rattle.typing.specs.Check.{checkAt};
 
 mod environments;
-mod levels;
 mod rules;
 mod walks;
 
-// An environment: a status, and a level for each register and array. Slots that a table does not use are never looked at.
+// An environment: a status, and the levels of the registers and of the arrays, packed two bits a slot. The seven bytes of a
+// table hold as much, but for the status: there it is never outdated.
 pub struct Env {
     pub status: Status,
-    pub registers: [u8; 16],
-    pub arrays: [u8; 16],
+    pub registers: u32,
+    pub arrays: u32,
 }
 
 // How far a walk came, and the environment there. At a fault the environment says nothing.

@@ -2,30 +2,33 @@
 use crate::Env;
 use crate::environments::killed;
 use crate::environments::same_status;
-use crate::levels::Change;
-use crate::levels::each;
-use crate::levels::larger;
-use crate::levels::level;
-use crate::levels::settled;
-use crate::levels::with_level;
+use levels::join_levels;
+use levels::larger;
+use levels::level;
+use levels::settle_levels;
+use levels::settled;
+use levels::transients;
+use levels::with_level;
 use model::Simple;
 use model::Sizes;
 use model::Status;
 ghost use mathlib.Core.Path.{_≡_};
-ghost use Prim.Native.Nat.{_<_, max};
+ghost use Prim.Native.Nat.{_<_, _≤_, max};
 ghost use lib.Dec.{eqb};
 ghost use Rattle.model.specs.Decide.{meets, simpleNumber};
 ghost use Rattle.model.specs.Levels.{sameStatus};
+ghost use Rattle.model.specs.Packing.{slot};
 ghost use Rattle.model.specs.Records.{SimpleFits};
-ghost use Rattle.model.specs.Rules.{written, raised, stored, storedFixed, fenced, updated, protected, after};
-ghost use Rattle.typing.specs.Envs.{levels, viewEnv, Small};
+ghost use Rattle.model.specs.Rules.{beside, written, raised, stored, storedFixed, fenced, updated, protected, after};
+ghost use Rattle.model.specs.Whole.{NoThrees};
+ghost use Rattle.model.specs.Words.{NoThree};
+ghost use Rattle.typing.specs.Envs.{viewEnv, Small};
 
 // Register i is public.
 pub(crate) fn is_public(e: Env, i: u8) -> bool
     ensures { λ r. ⌜ r ≡ eqb (viewEnv e .regs i) 0 ⌝ }
 {
-    let a = e.registers;
-    level(a, i) == 0
+    level(e.registers, i) == 0
 }
 
 fn has_status(e: Env, s: Status) -> bool
@@ -109,11 +112,10 @@ pub(crate) fn number_of(s: Simple) -> u8
 
 // Register d written at level l.
 fn written_env(e: Env, d: u8, l: u8) -> Env
-    requires { ⌜ d < 16 ⌝ }
+    requires { ⌜ (d < 16) × (l < 4) ⌝ }
     ensures { λ r. ⌜ viewEnv r ≡ written (viewEnv e) d l ⌝ }
 {
-    let a = e.registers;
-    let registers = with_level(a, d, l);
+    let registers = with_level(e.registers, d, l);
     let s = e.status;
     let status = killed(d, s);
     let arrays = e.arrays;
@@ -163,13 +165,12 @@ fn after_load_fixed(e: Env, dest: u8, array: u8) -> Env
 }
 
 // The named array raised to the source's level, beside the others at the levels given.
-fn raised_env(e: Env, others: [u8; 16], array: u8, source: u8) -> Env
+fn raised_env(e: Env, others: u32, array: u8, source: u8) -> Env
     requires { ⌜ array < 16 ⌝ }
-    ensures { λ r. ⌜ viewEnv r ≡ raised (viewEnv e) (levels others) array (viewEnv e .regs source) ⌝ }
+    ensures { λ r. ⌜ viewEnv r ≡ raised (viewEnv e) (slot others) array (viewEnv e .regs source) ⌝ }
 {
     let registers = e.registers;
-    let a = e.arrays;
-    let named = larger(level(a, array), level(registers, source));
+    let named = larger(level(e.arrays, array), level(registers, source));
     let arrays = with_level(others, array, named);
     let status = e.status;
     Env {
@@ -179,15 +180,25 @@ fn raised_env(e: Env, others: [u8; 16], array: u8, source: u8) -> Env
     }
 }
 
+// The levels of so many arrays beside one into which the source's level is stored: what was public becomes transient, unless
+// the source is public.
+fn beside_levels(arrays: u32, count: u8, source: u8) -> u32
+    requires { ⌜ NoThree arrays × (count ≤ 16) ⌝ }
+    ensures { λ r. ⌜ slot r ≡ (λ b. beside count source b (slot arrays b)) ⌝ }
+{
+    if source == 0 {
+        return arrays;
+    }
+    join_levels(arrays, transients(count))
+}
+
 // A stray write may reach every array.
 fn after_store(z: Sizes, e: Env, array: u8, source: u8) -> Env
-    requires { ⌜ Small z × (array < 16) ⌝ }
+    requires { ⌜ Small z × (array < 16) × NoThrees (viewEnv e) ⌝ }
     ensures { λ r. ⌜ viewEnv r ≡ stored (z .arrays) (viewEnv e) array source ⌝ }
 {
-    let registers = e.registers;
-    let l = level(registers, source);
-    let a = e.arrays;
-    let others = each(Change::Beside(z.arrays, l), a, a);
+    let l = level(e.registers, source);
+    let others = beside_levels(e.arrays, z.arrays, l);
     raised_env(e, others, array, source)
 }
 
@@ -201,10 +212,10 @@ fn after_store_fixed(e: Env, array: u8, source: u8) -> Env
 }
 
 fn after_init(e: Env) -> Env
+    requires { ⌜ NoThrees (viewEnv e) ⌝ }
     ensures { λ r. ⌜ viewEnv r ≡ fenced (viewEnv e) ⌝ }
 {
-    let a = e.registers;
-    let registers = each(Change::Settle, a, a);
+    let registers = settle_levels(e.registers);
     let arrays = e.arrays;
     Env {
         status: Status::Updated,
@@ -241,7 +252,7 @@ fn after_protect(e: Env, dest: u8, source: u8) -> Env
 
 // The environment after a simple record whose fields are in range.
 pub(crate) fn after_simple(z: Sizes, s: Simple, e: Env) -> Env
-    requires { ⌜ Small z × SimpleFits (z .registers) (z .arrays) s ⌝ }
+    requires { ⌜ Small z × SimpleFits (z .registers) (z .arrays) s × NoThrees (viewEnv e) ⌝ }
     ensures { λ r. ⌜ viewEnv r ≡ after (z .arrays) s (viewEnv e) ⌝ }
 {
     match s {

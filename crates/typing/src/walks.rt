@@ -21,15 +21,17 @@ use model::Walked;
 ghost use mathlib.Core.Path.{_≡_};
 ghost use Prim.Native.Nat.{_+_, _-_, _<_, _≤_};
 ghost use lib.ListN.{length};
+ghost use Rattle.model.specs.Packing.{envOf};
 ghost use Rattle.model.specs.Records.{SimpleFits};
 ghost use Rattle.model.specs.Typing.{typeFrom};
 ghost use Rattle.model.specs.Walk.{Shut as Closed};
-ghost use Rattle.typing.specs.Envs.{viewEnv, Small, Ready};
+ghost use Rattle.model.specs.Whole.{NoThrees, Where};
+ghost use Rattle.typing.specs.Envs.{viewEnv, Fit, Signed, Small, Ready};
 ghost use Rattle.typing.specs.Walks.{viewWalk, Close, bare, simpleWalk, callWalk, joinWalk, backWalk, table, size, recordWalk, blockWalk, ifWalk, whileWalk, functionWalk};
 
 // The simple record at `at`, with `next` after it.
 fn simple(z: Sizes, s: Simple, at: usize, next: usize, e: Env) -> Walk
-    requires { ⌜ Small z × SimpleFits (z .registers) (z .arrays) s ⌝ }
+    requires { ⌜ Small z × SimpleFits (z .registers) (z .arrays) s × NoThrees (viewEnv e) ⌝ }
     ensures { λ r. ⌜ viewWalk r ≡ simpleWalk z s at next (viewEnv e) ⌝ }
 {
     if is_met(s, e) {
@@ -47,11 +49,11 @@ fn simple(z: Sizes, s: Simple, at: usize, next: usize, e: Env) -> Walk
 
 // The CALL of a function at `at`, with `next` after it.
 fn call(t: &[u8], z: Sizes, function: u8, mark: bool, at: usize, next: usize, e: Env) -> Walk
-    requires { ⌜ Small z ⌝ }
+    requires { ⌜ Signed z (now t) function × Fit z (viewEnv e) ⌝ }
     ensures { λ r. ⌜ viewWalk r ≡ callWalk z (now (t .entry)) function mark at next (viewEnv e) ⌝ }
 {
     let into = unpack(layout::in_of(t, z, function));
-    if env_within(z, e, into) {
+    if env_within(e, into) {
         let out = unpack(layout::out_of(t, z, function));
         let env = returned_env(out, mark, e);
         return Walk {
@@ -67,7 +69,7 @@ fn call(t: &[u8], z: Sizes, function: u8, mark: bool, at: usize, next: usize, e:
 
 // The IF on a register at `at`: both blocks, then their join.
 fn branch(t: &[u8], z: Sizes, at: usize, register: u8, depth: u8, e: Env) -> Walk
-    requires { ⌜ Ready z (now t) at depth × (at + 4 ≤ length (now t)) ⌝ }
+    requires { ⌜ Ready z (now t) at depth × (at + 4 ≤ length (now t)) × Fit z (viewEnv e) ⌝ }
     ensures { λ r. ⌜ viewWalk r ≡ ifWalk z (now (t .entry)) depth at register (viewEnv e) ⌝ }
 {
     if !is_public(e, register) {
@@ -102,7 +104,7 @@ fn fault(n: u8, p: usize, env: Env) -> Walk
 
 // The end of an IF whose first block ended in env1.
 fn joined(env1: Env, second: Walk) -> Walk
-    requires { ⌜ Close (second .to) ⌝ }
+    requires { ⌜ Close (second .to) × NoThrees (viewEnv env1) × Where NoThrees (viewWalk second) ⌝ }
     ensures { λ r. ⌜ viewWalk r ≡ joinWalk (viewEnv env1) (viewWalk second) ⌝ }
 {
     let to = second.to;
@@ -122,11 +124,11 @@ fn joined(env1: Env, second: Walk) -> Walk
 
 // The WHILE on a register at `at`, with its loop environment. What arrives is compared before the guard is looked at.
 fn repeat(t: &[u8], z: Sizes, at: usize, register: u8, packed: Packed, depth: u8, e: Env) -> Walk
-    requires { ⌜ Ready z (now t) at depth × (at + 11 ≤ length (now t)) ⌝ }
+    requires { ⌜ Ready z (now t) at depth × (at + 11 ≤ length (now t)) × Fit z (viewEnv e) × Fit z (envOf packed) ⌝ }
     ensures { λ r. ⌜ viewWalk r ≡ whileWalk z (now (t .entry)) depth at register packed (viewEnv e) ⌝ }
 {
     let kept = unpack(packed);
-    if !env_within(z, e, kept) {
+    if !env_within(e, kept) {
         return fault(12, at, e);
     }
     if !is_public(kept, register) {
@@ -142,7 +144,7 @@ fn repeat(t: &[u8], z: Sizes, at: usize, register: u8, packed: Packed, depth: u8
 
 // The end of a loop's body: back to the loop environment, and past the loop.
 fn back(z: Sizes, register: u8, packed: Packed, body: Walk) -> Walk
-    requires { ⌜ Small z × Close (body .to) ⌝ }
+    requires { ⌜ Close (body .to) × Where (Fit z) (viewWalk body) × Fit z (envOf packed) ⌝ }
     ensures { λ r. ⌜ viewWalk r ≡ backWalk z register packed (viewWalk body) ⌝ }
 {
     let to = body.to;
@@ -152,7 +154,7 @@ fn back(z: Sizes, register: u8, packed: Packed, body: Walk) -> Walk
         Walked::Fault(n, p) => fault(n, p, env1),
         Walked::Shut(p) => {
             let kept = unpack(packed);
-            if !env_within(z, env1, kept) {
+            if !env_within(env1, kept) {
                 return fault(12, p, env1);
             }
             let env = guarded_env(kept, register, false);
@@ -166,7 +168,7 @@ fn back(z: Sizes, register: u8, packed: Packed, body: Walk) -> Walk
 
 // The record at `at`. Where none can be read, RETURN stands for it.
 fn one(t: &[u8], z: Sizes, at: usize, depth: u8, e: Env) -> Walk
-    requires { ⌜ Ready z (now t) at depth ⌝ }
+    requires { ⌜ Ready z (now t) at depth × Fit z (viewEnv e) ⌝ }
     ensures { λ r. ⌜ viewWalk r ≡ recordWalk z (now (t .entry)) depth at (viewEnv e) ⌝ }
 {
     let d = records::decode(t, at, z);
@@ -196,7 +198,7 @@ fn shut(at: usize, env: Env) -> Walk
 
 // The records from `from` on, up to the one that closes the block.
 fn block(t: &[u8], z: Sizes, from: usize, depth: u8, env: Env) -> Walk
-    requires { ⌜ Ready z (now t) from depth ⌝ }
+    requires { ⌜ Ready z (now t) from depth × Fit z (viewEnv env) ⌝ }
     ensures { λ r. ⌜ viewWalk r ≡ blockWalk z (now (t .entry)) depth (size z (now (t .entry))) from (viewEnv env) ⌝ }
 {
     let mut at = from;
@@ -222,7 +224,7 @@ fn block(t: &[u8], z: Sizes, from: usize, depth: u8, env: Env) -> Walk
 
 // Function g, from its in-environment to its RETURN.
 fn function(t: &[u8], z: Sizes, g: u8) -> Walked
-    requires { ⌜ Ready z (now t) 0 16 ⌝ }
+    requires { ⌜ Ready z (now t) 0 16 × (g < z .functions) ⌝ }
     ensures { λ r. ⌜ r ≡ bare (functionWalk z (now (t .entry)) g) ⌝ }
 {
     let start = layout::start_of(t, z, g);
@@ -235,7 +237,7 @@ fn function(t: &[u8], z: Sizes, g: u8) -> Walked
         Walked::Fault(n, p) => Walked::Fault(n, p),
         Walked::Shut(p) => {
             let out = unpack(layout::out_of(t, z, g));
-            if env_within(z, e, out) {
+            if env_within(e, out) {
                 return Walked::Shut(p);
             }
             Walked::Fault(14, p)

@@ -1,41 +1,45 @@
+use Prim.Native.Nat.{ℕ, _^_, _<_, _≤_, max}
+use native.Mathlib.Omega.{arith}
+use mathlib.Core.Path.{_≡_, sym}
+use borrow.Author.Tests.{not-true, not-false}
 use Rattle.model.specs.Levels.{within}
 use Rattle.typing.proofs.Statuses.{all-last}
-use borrow.Author.Tests.{not-true, not-false}
-use mathlib.Core.Path.{sym}
+use Rattle.typing.proofs.Packed.{within-is}
 use borrow.Author.Needs.{needs}
 use Rattle.typing.proofs.environments.env_within.Statement.{statement}
 use Rattle.typing.proofs.environments.env_within.Tie as tie
 use Rattle.typing.proofs.environments.env_within.Reads as reads
 use Rattle.typing.proofs.environments.env_within.Lts as lts
+use Rattle.levels.proofs.levels_within.Reads as levels-within-reads
 use Rattle.typing.proofs.environments.covers_status.Reads as covers-status-reads
-use Rattle.typing.proofs.levels.levels_within.Reads as levels-within-reads
 
--- src/environments.rt:140:9
 covers-status-requires : tie.Need-covers-status-requires
 covers-status-requires c κs = search needs
 
--- src/environments.rt:141:9
 returns : tie.Need-returns
 unfolding within
-returns c = simp (sym (c .before .covers-status .ensures), not-true (c .before .covers-status .result) (c .if1 .taken))
+returns c = λ n m w v. simp (sym (c .before .covers-status .ensures), not-true (c .before .covers-status .result) (c .if1 .taken))
 
--- src/environments.rt:145:9
 levels-within-requires : tie.Need-levels-within-requires
 levels-within-requires c κs = search needs
 
--- src/environments.rt:146:9
 returns-2 : tie.Need-returns-2
 unfolding within
-returns-2 c = simp (sym (c .before .before .before .before .before .covers-status .ensures), not-false (c .before .before .before .before .before .covers-status .result) (c .before .before .before .before .if1 .left), sym (c .before .levels-within .ensures), not-true (c .before .levels-within .result) (c .if2 .taken))
+returns-2 c = λ n m w v.
+    let a = c .before .before .before .before .args in
+    let regs = within-is n (a .e .registers) (a .f .registers) (omega arith) (omega arith) (w .regs) (v .regs) (c .before .levels-within .ensures) in
+    simp (sym (c .before .before .before .covers-status .ensures), not-false (c .before .before .before .covers-status .result) (c .before .before .if1 .left), regs, not-true (c .before .levels-within .result) (c .if2 .taken))
 
--- src/environments.rt:150:5
 levels-within-requires-2 : tie.Need-levels-within-requires-2
 levels-within-requires-2 c κs = search needs
 
--- src/environments.rt:134:1
 returns-3 : tie.Need-returns-3
 unfolding within
-returns-3 c = simp (sym (c .before .before .before .before .before .before .before .before .covers-status .ensures), not-false (c .before .before .before .before .before .before .before .before .covers-status .result) (c .before .before .before .before .before .before .before .if1 .left), sym (c .before .before .before .before .levels-within .ensures), not-false (c .before .before .before .before .levels-within .result) (c .before .before .before .if2 .left), sym (c .levels-within2 .ensures), all-last)
+returns-3 c = λ n m w v.
+    let a = c .before .before .before .before .before .args in
+    let regs = within-is n (a .e .registers) (a .f .registers) (omega arith) (omega arith) (w .regs) (v .regs) (c .before .before .levels-within .ensures) in
+    let arrays = within-is m (a .e .arrays) (a .f .arrays) (omega arith) (omega arith) (w .arrays) (v .arrays) (c .levels-within2 .ensures) in
+    simp (sym (c .before .before .before .before .covers-status .ensures), not-false (c .before .before .before .before .covers-status .result) (c .before .before .before .if1 .left), regs, not-false (c .before .before .levels-within .result) (c .before .if2 .left), arrays, all-last)
 
 pub env-within-spec : {M : Type 1} → statement M
 env-within-spec =

@@ -6,13 +6,11 @@ use Rattle.typing.proofs.environments.guarded_env.Reads as reads
 use Rattle.typing.proofs.environments.guarded_env.Lts as lts
 use Rattle.typing.proofs.environments.guard_status.Reads as guard-status-reads
 
--- src/environments.rt:178:9
 guard-status-requires : tie.Need-guard-status-requires
 guard-status-requires c κs = search needs
 
--- src/environments.rt:174:1
 returns : tie.Need-returns
-returns c = rw (c .before .before .guard-status .ensures) refl
+returns c = rw (c .guard-status .ensures) refl
 
 pub guarded-env-spec : {M : Type 1} → statement M
 guarded-env-spec = tie.close (tie.spec guard-status-requires returns)

@@ -1,26 +1,31 @@
+use Prim.Native.Nat.{ℕ, _^_, _<_, _≤_, max}
+use native.Mathlib.Omega.{arith}
+use Rattle.typing.proofs.Packed.{join-is}
 use borrow.Author.Needs.{needs}
 use Rattle.typing.proofs.environments.join_envs.Statement.{statement}
 use Rattle.typing.proofs.environments.join_envs.Tie as tie
 use Rattle.typing.proofs.environments.join_envs.Reads as reads
 use Rattle.typing.proofs.environments.join_envs.Lts as lts
+use Rattle.levels.proofs.join_levels.Reads as join-levels-reads
 use Rattle.typing.proofs.environments.join_status.Reads as join-status-reads
-use Rattle.typing.proofs.levels.each.Reads as each-reads
 
--- src/environments.rt:159:9
 join-status-requires : tie.Need-join-status-requires
 join-status-requires c κs = search needs
 
--- src/environments.rt:162:9
-each-requires : tie.Need-each-requires
-each-requires c κs = search needs
+join-levels-requires : tie.Need-join-levels-requires
+join-levels-requires c κs = search needs
 
--- src/environments.rt:165:9
-each-requires-2 : tie.Need-each-requires-2
-each-requires-2 c κs = search needs
+join-levels-requires-2 : tie.Need-join-levels-requires-2
+join-levels-requires-2 c κs = search needs
 
--- src/environments.rt:154:1
 returns : tie.Need-returns
-returns c = λ i. record { status = c .before .before .before .before .before .before .join-status .ensures i; regs = c .before .before .before .each .ensures i; arrays = c .each2 .ensures i }
+returns c =
+    let a = c .before .before .before .args in
+    let p = c .before .before .before .pre in
+    let regs = join-is (a .e .registers) (a .f .registers) (omega arith) (omega arith) (p .0 .0) (p .1 .0) (c .before .join-levels .ensures) in
+    let arrays = join-is (a .e .arrays) (a .f .arrays) (omega arith) (omega arith) (p .0 .1) (p .1 .1) (c .join-levels2 .ensures) in
+    λ i. record { status = c .before .before .join-status .ensures i; regs = regs i; arrays = arrays i }
 
 pub join-envs-spec : {M : Type 1} → statement M
-join-envs-spec = tie.close (tie.spec join-status-requires each-requires each-requires-2 returns)
+join-envs-spec =
+    tie.close (tie.spec join-status-requires join-levels-requires join-levels-requires-2 returns)

@@ -6,13 +6,11 @@ use Rattle.typing.proofs.environments.returned_env.Reads as reads
 use Rattle.typing.proofs.environments.returned_env.Lts as lts
 use Rattle.typing.proofs.environments.call_status.Reads as call-status-reads
 
--- src/environments.rt:193:9
 call-status-requires : tie.Need-call-status-requires
 call-status-requires c κs = search needs
 
--- src/environments.rt:189:1
 returns : tie.Need-returns
-returns c = rw (c .before .before .call-status .ensures) refl
+returns c = rw (c .call-status .ensures) refl
 
 pub returned-env-spec : {M : Type 1} → statement M
 returned-env-spec = tie.close (tie.spec call-status-requires returns)

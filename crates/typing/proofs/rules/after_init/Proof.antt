@@ -1,19 +1,23 @@
+use Prim.Native.Nat.{ℕ, _^_, _<_, _≤_, max}
+use native.Mathlib.Omega.{arith}
+use Rattle.model.specs.Packing.{slot}
 use Rattle.model.specs.declared.Status.the-variants.{Updated}
-use Rattle.typing.specs.Envs.{levels}
+use Rattle.typing.proofs.Packed.{settle-is}
 use borrow.Author.Needs.{needs}
 use Rattle.typing.proofs.rules.after_init.Statement.{statement}
 use Rattle.typing.proofs.rules.after_init.Tie as tie
 use Rattle.typing.proofs.rules.after_init.Reads as reads
 use Rattle.typing.proofs.rules.after_init.Lts as lts
-use Rattle.typing.proofs.levels.each.Reads as each-reads
+use Rattle.levels.proofs.settle_levels.Reads as settle-levels-reads
 
--- src/rules.rt:167:9
-each-requires : tie.Need-each-requires
-each-requires c κs = search needs
+settle-levels-requires : tie.Need-settle-levels-requires
+settle-levels-requires c κs = search needs
 
--- src/rules.rt:163:1
 returns : tie.Need-returns
-returns c = λ i. record { status = Updated; regs = c .before .each .ensures i; arrays = levels (c .before .before .before .args .e .arrays) }
+returns c =
+    let a = c .before .args in
+    let regs = settle-is (a .e .registers) (omega arith) (c .before .pre .0) (c .settle-levels .ensures) in
+    λ i. record { status = Updated; regs = regs i; arrays = slot (a .e .arrays) }
 
 pub after-init-spec : {M : Type 1} → statement M
-after-init-spec = tie.close (tie.spec each-requires returns)
+after-init-spec = tie.close (tie.spec settle-levels-requires returns)

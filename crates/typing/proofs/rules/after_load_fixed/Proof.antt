@@ -1,20 +1,22 @@
+use Prim.Native.Nat.{ℕ, _^_, _<_, _≤_, max}
+use native.Mathlib.Omega.{arith}
+use Rattle.model.specs.Words.{slot-small}
 use borrow.Author.Needs.{needs}
 use Rattle.typing.proofs.rules.after_load_fixed.Statement.{statement}
 use Rattle.typing.proofs.rules.after_load_fixed.Tie as tie
 use Rattle.typing.proofs.rules.after_load_fixed.Reads as reads
 use Rattle.typing.proofs.rules.after_load_fixed.Lts as lts
-use Rattle.typing.proofs.levels.level.Reads as level-reads
+use Rattle.levels.proofs.level.Reads as level-reads
 use Rattle.typing.proofs.rules.written_env.Reads as written-env-reads
 
--- src/rules.rt:162:26
 level-requires : tie.Need-level-requires
 level-requires c κs = search needs
 
--- src/rules.rt:162:5
 written-env-requires : tie.Need-written-env-requires
-written-env-requires c κs = search needs
+written-env-requires c κs =
+    let a = c .before .args in
+    (c .before .pre, omega (arith, c .level .ensures, slot-small (a .e .arrays) (a .array)))
 
--- src/rules.rt:157:1
 returns : tie.Need-returns
 returns c = simp (c .before .level .ensures) at (c .written-env .ensures)
 

@@ -1,37 +1,35 @@
+use Prim.Native.Nat.{ℕ, _^_, _<_, _≤_, max}
+use native.Mathlib.Omega.{arith}
+use Rattle.model.specs.Words.{slot-small}
 use borrow.Author.Needs.{needs}
 use Rattle.typing.proofs.rules.after_select.Statement.{statement}
 use Rattle.typing.proofs.rules.after_select.Tie as tie
 use Rattle.typing.proofs.rules.after_select.Reads as reads
 use Rattle.typing.proofs.rules.after_select.Lts as lts
-use Rattle.typing.proofs.levels.larger.Reads as larger-reads
-use Rattle.typing.proofs.levels.level.Reads as level-reads
+use Rattle.levels.proofs.larger.Reads as larger-reads
+use Rattle.levels.proofs.level.Reads as level-reads
 use Rattle.typing.proofs.rules.written_env.Reads as written-env-reads
 
--- src/rules.rt:131:16
 level-requires : tie.Need-level-requires
 level-requires c κs = search needs
 
--- src/rules.rt:131:39
 level-requires-2 : tie.Need-level-requires-2
 level-requires-2 c κs = search needs
 
--- src/rules.rt:131:54
 level-requires-3 : tie.Need-level-requires-3
 level-requires-3 c κs = search needs
 
--- src/rules.rt:131:32
 larger-requires : tie.Need-larger-requires
 larger-requires c κs = search needs
 
--- src/rules.rt:131:9
 larger-requires-2 : tie.Need-larger-requires-2
 larger-requires-2 c κs = search needs
 
--- src/rules.rt:128:5
 written-env-requires : tie.Need-written-env-requires
-written-env-requires c κs = search needs
+written-env-requires c κs =
+    let a = c .before .before .before .before .before .args in
+    (c .before .before .before .before .before .pre, omega (arith, c .larger2 .ensures, c .before .larger .ensures, c .before .before .level3 .ensures, c .before .before .before .level2 .ensures, c .before .before .before .before .level .ensures, slot-small (a .e .registers) (a .cond), slot-small (a .e .registers) (a .yes), slot-small (a .e .registers) (a .no)))
 
--- src/rules.rt:123:1
 returns : tie.Need-returns
 returns c = simp (c .before .larger2 .ensures, c .before .before .larger .ensures, c .before .before .before .level3 .ensures, c .before .before .before .before .level2 .ensures, c .before .before .before .before .before .level .ensures) at (c .written-env .ensures)
 

@@ -17,147 +17,117 @@ use Rattle.typing.proofs.rules.after_store_fixed.Reads as after-store-f
 use Rattle.typing.proofs.rules.after_update.Reads as after-update-reads
 use Rattle.typing.proofs.rules.written_env.Reads as written-env-reads
 
--- src/rules.rt:208:25
 enum-known-s : tie.Need-enum-known-s
 enum-known-s c = search needs
 
--- src/rules.rt:208:42
 written-env-requires : tie.Need-written-env-requires
 written-env-requires c κs =
     let small = c .before .before .before .pre .0 in
     let f = subst (SimpleFits (c .before .before .before .args .z .registers) (c .before .before .before .args .z .arrays)) (c .before .s .given .1) (c .before .before .before .pre .1) in
-    omega (arith, f, small .registers)
+    (omega (arith, f, small .registers), omega arith)
 
--- src/rules.rt:210:13
 enum-known-s-2 : tie.Need-enum-known-s-2
 enum-known-s-2 c = search needs
 
--- src/rules.rt:214:14
 after-op-requires : tie.Need-after-op-requires
 after-op-requires c κs =
     let small = c .before .before .before .pre .0 in
     let f = subst (SimpleFits (c .before .before .before .args .z .registers) (c .before .before .before .args .z .arrays)) (c .before .s2 .given .1) (c .before .before .before .pre .1) in
     omega (arith, f .0, small .registers)
 
--- src/rules.rt:216:13
 enum-known-s-3 : tie.Need-enum-known-s-3
 enum-known-s-3 c = search needs
 
--- src/rules.rt:220:14
 after-select-requires : tie.Need-after-select-requires
 after-select-requires c κs =
     let small = c .before .before .before .pre .0 in
     let f = subst (SimpleFits (c .before .before .before .args .z .registers) (c .before .before .before .args .z .arrays)) (c .before .s3 .given .1) (c .before .before .before .pre .1) in
     omega (arith, f .0, small .registers)
 
--- src/rules.rt:221:24
 enum-known-s-4 : tie.Need-enum-known-s-4
 enum-known-s-4 c = search needs
 
--- src/rules.rt:221:48
 after-load-requires : tie.Need-after-load-requires
 after-load-requires c κs =
     let small = c .before .before .before .pre .0 in
     let f = subst (SimpleFits (c .before .before .before .args .z .registers) (c .before .before .before .args .z .arrays)) (c .before .s4 .given .1) (c .before .before .before .pre .1) in
     omega (arith, f .0, small .registers)
 
--- src/rules.rt:223:13
 enum-known-s-5 : tie.Need-enum-known-s-5
 enum-known-s-5 c = search needs
 
--- src/rules.rt:226:14
 after-store-requires : tie.Need-after-store-requires
 after-store-requires c κs =
     let small = c .before .before .before .pre .0 in
     let f = subst (SimpleFits (c .before .before .before .args .z .registers) (c .before .before .before .args .z .arrays)) (c .before .s5 .given .1) (c .before .before .before .pre .1) in
-    (small, omega (arith, f .0, small .arrays))
+    (small, omega (arith, f .0, small .arrays), c .before .before .before .pre .2)
 
--- src/rules.rt:227:25
 enum-told : tie.Need-enum-told
 enum-told c = search needs
 
--- src/rules.rt:227:25
 after-init-requires : tie.Need-after-init-requires
 after-init-requires c κs = search needs
 
--- src/rules.rt:228:26
 enum-known-s-6 : tie.Need-enum-known-s-6
 enum-known-s-6 c = search needs
 
--- src/rules.rt:228:47
 after-update-requires : tie.Need-after-update-requires
 after-update-requires c κs = search needs
 
--- src/rules.rt:229:27
 enum-known-s-7 : tie.Need-enum-known-s-7
 enum-known-s-7 c = search needs
 
--- src/rules.rt:229:45
 after-protect-requires : tie.Need-after-protect-requires
 after-protect-requires c κs =
     let small = c .before .before .before .pre .0 in
     let f = subst (SimpleFits (c .before .before .before .args .z .registers) (c .before .before .before .args .z .arrays)) (c .before .s7 .given .1) (c .before .before .before .pre .1) in
     omega (arith, f .0, small .registers)
 
--- src/rules.rt:272:29
 enum-known-s-8 : tie.Need-enum-known-s-8
 enum-known-s-8 c = search needs
 
--- src/rules.rt:272:53
 after-load-fixed-requires : tie.Need-after-load-fixed-requires
 after-load-fixed-requires c κs =
     let small = c .before .before .before .pre .0 in
     let f = subst (SimpleFits (c .before .before .before .args .z .registers) (c .before .before .before .args .z .arrays)) (c .before .s8 .given .1) (c .before .before .before .pre .1) in
     omega (arith, f .0, small .registers)
 
--- src/rules.rt:274:13
 enum-known-s-9 : tie.Need-enum-known-s-9
 enum-known-s-9 c = search needs
 
--- src/rules.rt:277:14
 after-store-fixed-requires : tie.Need-after-store-fixed-requires
 after-store-fixed-requires c κs =
     let small = c .before .before .before .pre .0 in
     let f = subst (SimpleFits (c .before .before .before .args .z .registers) (c .before .before .before .args .z .arrays)) (c .before .s9 .given .1) (c .before .before .before .pre .1) in
     omega (arith, f .0, small .arrays)
 
--- src/rules.rt:203:1
 returns : tie.Need-returns
 returns c = simp (c .before .before .s .given .1) (c .written-env .ensures)
 
--- src/rules.rt:203:1
 returns-2 : tie.Need-returns-2
 returns-2 c = simp (c .before .before .s2 .given .1) (c .after-op .ensures)
 
--- src/rules.rt:203:1
 returns-3 : tie.Need-returns-3
 returns-3 c = simp (c .before .before .s3 .given .1) (c .after-select .ensures)
 
--- src/rules.rt:203:1
 returns-4 : tie.Need-returns-4
 returns-4 c = simp (c .before .before .s4 .given .1) (c .after-load .ensures)
 
--- src/rules.rt:203:1
 returns-5 : tie.Need-returns-5
 returns-5 c = simp (c .before .before .s5 .given .1) (c .after-store .ensures)
 
--- src/rules.rt:203:1
 returns-6 : tie.Need-returns-6
 returns-6 c = simp (c .before .enum-told .given .1) (c .after-init .ensures)
 
--- src/rules.rt:203:1
 returns-7 : tie.Need-returns-7
 returns-7 c = simp (c .before .before .s6 .given .1) (c .after-update .ensures)
 
--- src/rules.rt:203:1
 returns-8 : tie.Need-returns-8
 returns-8 c = simp (c .before .before .s7 .given .1) (c .after-protect .ensures)
 
--- src/rules.rt:203:1
 returns-9 : tie.Need-returns-9
 returns-9 c = simp (c .before .before .s8 .given .1) (c .after-load-fixed .ensures)
 
--- src/rules.rt:203:1
 returns-10 : tie.Need-returns-10
 returns-10 c = simp (c .before .before .s9 .given .1) (c .after-store-fixed .ensures)
 

@@ -1,6 +1,6 @@
 use Prim.Native.Nat.{ℕ, suc, _<_, _≤_, _+_, _*_, _-_}
 use native.Mathlib.Omega.{arith}
-use mathlib.Core.Bool.{true}
+use mathlib.Core.Bool.{true, false}
 use mathlib.Core.Path.{_≡_, refl, sym, ap, subst, _∙_}
 use lib.Dec.{eqb}
 use lib.ListN.{length}
@@ -13,9 +13,12 @@ use Rattle.model.specs.Rules.{guarded}
 use Rattle.model.specs.Records.{Fits, lengthOf}
 use Rattle.model.specs.Levels.{Env as Environment}
 use Rattle.format.specs.Laws.{good}
-use Rattle.typing.specs.Walks.{simpleWalk, callWalk, joinWalk, backWalk, size, blockWalk}
-use Rattle.typing.specs.Envs.{viewEnv}
-use Rattle.typing.proofs.Turns.{seen, halts, within-packed, record-got, record-bad, record-is, if-private, if-deep, if-is, while-out, while-private, while-deep, while-is, shut-near, block-close, next-ok, turn-next, turn-shut, turn-fault}
+use Rattle.model.specs.Packing.{envOf}
+use Rattle.model.specs.Whole.{NoThrees, no-threes, packed-whole, where-map}
+use Rattle.typing.specs.Walks.{viewWalk, simpleWalk, callWalk, joinWalk, backWalk, size, blockWalk}
+use Rattle.typing.specs.Envs.{viewEnv, Fit}
+use Rattle.typing.proofs.Ready.{moved}
+use Rattle.typing.proofs.Turns.{seen, halts, at-shut, guarded-fit, next-fit, walk-fit, within-packed, record-got, record-bad, record-is, if-private, if-deep, if-is, while-out, while-private, while-deep, while-is, shut-near, block-close, next-ok, turn-next, turn-shut, turn-fault}
 use Rattle.typing.proofs.walks.block.Reads as block
 use Rattle.typing.proofs.walks.block.Kinds as block-kinds
 use Rattle.typing.proofs.walks.+block+branch+one+repeat.Lts-block as block-lts
@@ -79,12 +82,11 @@ abbrev repeat-below : ℕ → In 1 repeat-kinds.ps
 repeat-below t = and 1 repeat-kinds.ps (falls 1 repeat-kinds.ps _<_ μ-repeat t) repeat.Pre
 
 abbrev block-Inv-loop : block-lts.InvT-loop
-block-Inv-loop t z from depth at₀ e₀ at e = (k : ℕ) × (length t - at < k) × (at ≤ 100000) × (blockWalk z t depth (size z t) at₀ (viewEnv e₀) ≡ blockWalk z t depth k at (viewEnv e))
+block-Inv-loop t z from depth at₀ e₀ at e = (k : ℕ) × (length t - at < k) × (at ≤ 100000) × Fit z (viewEnv e) × (blockWalk z t depth (size z t) at₀ (viewEnv e₀) ≡ blockWalk z t depth k at (viewEnv e))
 
 abbrev block-μ-loop : block-lts.MeasureT-loop
 block-μ-loop t z from depth at₀ e₀ at e = length t - at
 
--- src/walks.rt:204:5
 block-loop-holds : (t : ℕ) → block-lts.Need-loop-holds (
   one-below t,
   one.Post,
@@ -95,9 +97,8 @@ block-loop-holds : (t : ℕ) → block-lts.Need-loop-holds (
 ) (block-at t) block.Post block-Inv-loop block-μ-loop
 block-loop-holds t c =
     let a = c .before .args in
-    (suc (length (a .t .now)), omega arith, c .before .pre .1 .near, refl)
+    (suc (length (a .t .now)), omega arith, c .before .pre .1 .0 .near, c .before .pre .1 .1, refl)
 
--- src/walks.rt:205:13
 block-one-requires : (t : ℕ) → block-lts.Need-one-requires (
   one-below t,
   one.Post,
@@ -107,11 +108,10 @@ block-one-requires : (t : ℕ) → block-lts.Need-one-requires (
   fault-reads.Learnt,
 ) (block-at t) block.Post block-Inv-loop block-μ-loop
 block-one-requires t c κs =
-    let p = c .before .before .pre .1 in
+    let p = c .before .before .pre .1 .0 in
     let m = c .before .before .pre .0 in
-    (omega arith, record { small = p .small; short = p .short; near = c .loop .inv .2; shallow = p .shallow })
+    (omega arith, (moved p (c .loop .inv .2) (p .shallow), c .loop .inv .3))
 
--- src/walks.rt:209:26
 block-enum-known-to : (t : ℕ) → block-lts.Need-enum-known-to (
   one-below t,
   one.Post,
@@ -122,7 +122,6 @@ block-enum-known-to : (t : ℕ) → block-lts.Need-enum-known-to (
 ) (block-at t) block.Post block-Inv-loop block-μ-loop
 block-enum-known-to t c = search needs
 
--- src/walks.rt:204:5
 block-loop-less : (t : ℕ) → block-lts.Need-loop-less (
   one-below t,
   one.Post,
@@ -138,7 +137,6 @@ block-loop-less t c =
     let o = next-ok (a .z) (a .t .now) (a .depth) (L .at) (viewEnv (L .e)) e in
     omega (arith, o .0, o .1)
 
--- src/walks.rt:204:5
 block-loop-again : (t : ℕ) → block-lts.Need-loop-again (
   one-below t,
   one.Post,
@@ -150,13 +148,12 @@ block-loop-again : (t : ℕ) → block-lts.Need-loop-again (
 block-loop-again t c =
     let a = c .before .before .before .before .before .before .before .args in
     let L = c .before .before .before .before .before .loop in
-    let p = c .before .before .before .before .before .before .before .pre .1 in
+    let p = c .before .before .before .before .before .before .before .pre .1 .0 in
     let e = sym (c .before .before .before .before .one .ensures) ∙ seen (c .before .before .before .before .one .result) (c .before .to .given .1) in
     let o = next-ok (a .z) (a .t .now) (a .depth) (L .at) (viewEnv (L .e)) e in
     let n = turn-next (a .z) (a .t .now) (a .depth) (L .inv .0) (L .at) (viewEnv (L .e)) e (L .inv .1) in
-    (n .0, n .1, omega (arith, o .2, p .short, p .shallow), L .inv .3 ∙ n .2)
+    (n .0, n .1, omega (arith, o .2, p .short, p .shallow), next-fit (a .z) (a .t .now) p (a .depth) (L .at) (viewEnv (L .e)) (L .inv .3) e, L .inv .4 ∙ n .2)
 
--- src/walks.rt:213:26
 block-enum-known-to-2 : (t : ℕ) → block-lts.Need-enum-known-to-2 (
   one-below t,
   one.Post,
@@ -167,7 +164,6 @@ block-enum-known-to-2 : (t : ℕ) → block-lts.Need-enum-known-to-2 (
 ) (block-at t) block.Post block-Inv-loop block-μ-loop
 block-enum-known-to-2 t c = search needs
 
--- src/walks.rt:214:17
 block-shut-requires : (t : ℕ) → block-lts.Need-shut-requires (
   one-below t,
   one.Post,
@@ -178,7 +174,6 @@ block-shut-requires : (t : ℕ) → block-lts.Need-shut-requires (
 ) (block-at t) block.Post block-Inv-loop block-μ-loop
 block-shut-requires t c κs = search needs
 
--- src/walks.rt:214:17
 block-returns : (t : ℕ) → block-lts.Need-returns (
   one-below t,
   one.Post,
@@ -191,9 +186,8 @@ block-returns t c =
     let a = c .before .before .before .before .before .before .before .before .args in
     let L = c .before .before .before .before .before .before .loop in
     let e = sym (c .before .before .before .before .before .one .ensures) ∙ seen (c .before .before .before .before .before .one .result) (c .before .before .to2 .given .1) in
-    c .shut .ensures ∙ sym (L .inv .3 ∙ turn-shut (a .z) (a .t .now) (a .depth) (L .inv .0) (L .at) (viewEnv (L .e)) e (L .inv .1))
+    c .shut .ensures ∙ sym (L .inv .4 ∙ turn-shut (a .z) (a .t .now) (a .depth) (L .inv .0) (L .at) (viewEnv (L .e)) e (L .inv .1))
 
--- src/walks.rt:216:27
 block-enum-known-to-3 : (t : ℕ) → block-lts.Need-enum-known-to-3 (
   one-below t,
   one.Post,
@@ -204,7 +198,6 @@ block-enum-known-to-3 : (t : ℕ) → block-lts.Need-enum-known-to-3 (
 ) (block-at t) block.Post block-Inv-loop block-μ-loop
 block-enum-known-to-3 t c = search needs
 
--- src/walks.rt:217:17
 block-fault-requires : (t : ℕ) → block-lts.Need-fault-requires (
   one-below t,
   one.Post,
@@ -215,7 +208,6 @@ block-fault-requires : (t : ℕ) → block-lts.Need-fault-requires (
 ) (block-at t) block.Post block-Inv-loop block-μ-loop
 block-fault-requires t c κs = search needs
 
--- src/walks.rt:217:17
 block-returns-2 : (t : ℕ) → block-lts.Need-returns-2 (
   one-below t,
   one.Post,
@@ -228,9 +220,8 @@ block-returns-2 t c =
     let a = c .before .before .before .before .before .before .before .before .args in
     let L = c .before .before .before .before .before .before .loop in
     let e = sym (c .before .before .before .before .before .one .ensures) ∙ seen (c .before .before .before .before .before .one .result) (c .before .before .to3 .given .1) in
-    halts (c .fault .result) (c .fault .ensures) ∙ sym (L .inv .3 ∙ turn-fault (a .z) (a .t .now) (a .depth) (L .inv .0) (L .at) (viewEnv (L .e)) e (L .inv .1))
+    halts (c .fault .result) (c .fault .ensures) ∙ sym (L .inv .4 ∙ turn-fault (a .z) (a .t .now) (a .depth) (L .inv .0) (L .at) (viewEnv (L .e)) e (L .inv .1))
 
--- src/walks.rt:73:9
 branch-is-public-requires : (t : ℕ) → branch-lts.Need-is-public-requires (
   is-public-reads.Asked,
   is-public-reads.Learnt,
@@ -245,7 +236,6 @@ branch-is-public-requires : (t : ℕ) → branch-lts.Need-is-public-requires (
 ) (branch-at t) branch.Post
 branch-is-public-requires t c κs = search needs
 
--- src/walks.rt:74:9
 branch-fault-requires : (t : ℕ) → branch-lts.Need-fault-requires (
   is-public-reads.Asked,
   is-public-reads.Learnt,
@@ -260,7 +250,6 @@ branch-fault-requires : (t : ℕ) → branch-lts.Need-fault-requires (
 ) (branch-at t) branch.Post
 branch-fault-requires t c κs = search needs
 
--- src/walks.rt:74:9
 branch-returns : (t : ℕ) → branch-lts.Need-returns (
   is-public-reads.Asked,
   is-public-reads.Learnt,
@@ -278,7 +267,6 @@ branch-returns t c =
     let h = sym (c .before .before .is-public .ensures) ∙ not-true (c .before .before .is-public .result) (c .before .if1 .taken) in
     halts (c .fault .result) (c .fault .ensures) ∙ if-private (a .z) (a .t .now) (a .depth) (a .at) (a .register) (viewEnv (a .e)) h
 
--- src/walks.rt:77:9
 branch-fault-requires-2 : (t : ℕ) → branch-lts.Need-fault-requires-2 (
   is-public-reads.Asked,
   is-public-reads.Learnt,
@@ -293,7 +281,6 @@ branch-fault-requires-2 : (t : ℕ) → branch-lts.Need-fault-requires-2 (
 ) (branch-at t) branch.Post
 branch-fault-requires-2 t c κs = search needs
 
--- src/walks.rt:77:9
 branch-returns-2 : (t : ℕ) → branch-lts.Need-returns-2 (
   is-public-reads.Asked,
   is-public-reads.Learnt,
@@ -311,7 +298,6 @@ branch-returns-2 t c =
     let h = sym (c .before .before .before .is-public .ensures) ∙ not-false (c .before .before .before .is-public .result) (c .before .before .if1 .left) in
     halts (c .fault2 .result) (c .fault2 .ensures) ∙ if-deep (a .z) (a .t .now) (a .depth) (a .at) (a .register) (viewEnv (a .e)) h (c .before .if2 .taken)
 
--- src/walks.rt:79:9
 branch-guarded-env-requires : (t : ℕ) → branch-lts.Need-guarded-env-requires (
   is-public-reads.Asked,
   is-public-reads.Learnt,
@@ -326,7 +312,6 @@ branch-guarded-env-requires : (t : ℕ) → branch-lts.Need-guarded-env-requires
 ) (branch-at t) branch.Post
 branch-guarded-env-requires t c κs = search needs
 
--- src/walks.rt:80:29
 branch-add-block : (t : ℕ) → branch-lts.Need-add-block (
   is-public-reads.Asked,
   is-public-reads.Learnt,
@@ -343,7 +328,6 @@ branch-add-block t c =
     let p = c .before .before .before .before .before .pre .1 .0 .near in
     search needs
 
--- src/walks.rt:80:37
 branch-sub-block : (t : ℕ) → branch-lts.Need-sub-block (
   is-public-reads.Asked,
   is-public-reads.Learnt,
@@ -358,7 +342,6 @@ branch-sub-block : (t : ℕ) → branch-lts.Need-sub-block (
 ) (branch-at t) branch.Post
 branch-sub-block t c = search needs
 
--- src/walks.rt:80:9
 branch-block-requires : (t : ℕ) → branch-lts.Need-block-requires (
   is-public-reads.Asked,
   is-public-reads.Learnt,
@@ -376,9 +359,9 @@ branch-block-requires t c κs =
     let m = c .before .before .before .before .before .pre .0 in
     let p = c .before .before .before .before .before .pre .1 .0 in
     let l = c .before .before .before .before .before .pre .1 .1 in
-    (omega arith, record { small = p .small; short = p .short; near = omega (arith, p .short); shallow = omega (arith, p .shallow) })
+    let a = c .before .before .before .before .before .args in
+    (omega arith, (moved p (omega (arith, p .short)) (omega (arith, p .shallow)), guarded-fit (a .z) (viewEnv (a .e)) (a .register) true (c .before .before .before .before .before .pre .1 .2) (c .guarded-env .ensures)))
 
--- src/walks.rt:84:22
 branch-enum-known-to1 : (t : ℕ) → branch-lts.Need-enum-known-to1 (
   is-public-reads.Asked,
   is-public-reads.Learnt,
@@ -393,7 +376,6 @@ branch-enum-known-to1 : (t : ℕ) → branch-lts.Need-enum-known-to1 (
 ) (branch-at t) branch.Post
 branch-enum-known-to1 t c = search needs
 
--- src/walks.rt:84:28
 branch-fault-requires-3 : (t : ℕ) → branch-lts.Need-fault-requires-3 (
   is-public-reads.Asked,
   is-public-reads.Learnt,
@@ -408,7 +390,6 @@ branch-fault-requires-3 : (t : ℕ) → branch-lts.Need-fault-requires-3 (
 ) (branch-at t) branch.Post
 branch-fault-requires-3 t c κs = search needs
 
--- src/walks.rt:85:23
 branch-enum-known-to1-2 : (t : ℕ) → branch-lts.Need-enum-known-to1-2 (
   is-public-reads.Asked,
   is-public-reads.Learnt,
@@ -423,7 +404,6 @@ branch-enum-known-to1-2 : (t : ℕ) → branch-lts.Need-enum-known-to1-2 (
 ) (branch-at t) branch.Post
 branch-enum-known-to1-2 t c = search needs
 
--- src/walks.rt:85:32
 branch-fault-requires-4 : (t : ℕ) → branch-lts.Need-fault-requires-4 (
   is-public-reads.Asked,
   is-public-reads.Learnt,
@@ -438,7 +418,6 @@ branch-fault-requires-4 : (t : ℕ) → branch-lts.Need-fault-requires-4 (
 ) (branch-at t) branch.Post
 branch-fault-requires-4 t c κs = search needs
 
--- src/walks.rt:86:22
 branch-enum-known-to1-3 : (t : ℕ) → branch-lts.Need-enum-known-to1-3 (
   is-public-reads.Asked,
   is-public-reads.Learnt,
@@ -453,7 +432,6 @@ branch-enum-known-to1-3 : (t : ℕ) → branch-lts.Need-enum-known-to1-3 (
 ) (branch-at t) branch.Post
 branch-enum-known-to1-3 t c = search needs
 
--- src/walks.rt:87:17
 branch-guarded-env-requires-2 : (t : ℕ) → branch-lts.Need-guarded-env-requires-2 (
   is-public-reads.Asked,
   is-public-reads.Learnt,
@@ -468,7 +446,6 @@ branch-guarded-env-requires-2 : (t : ℕ) → branch-lts.Need-guarded-env-requir
 ) (branch-at t) branch.Post
 branch-guarded-env-requires-2 t c κs = search needs
 
--- src/walks.rt:88:38
 branch-add-block-2 : (t : ℕ) → branch-lts.Need-add-block-2 (
   is-public-reads.Asked,
   is-public-reads.Learnt,
@@ -489,7 +466,6 @@ branch-add-block-2 t c =
     let u : c .before .before .to13 .given .0 .0 ≤ 200000 = omega (arith, s, p .short, p .near, p .shallow) in
     search needs
 
--- src/walks.rt:88:45
 branch-sub-block-2 : (t : ℕ) → branch-lts.Need-sub-block-2 (
   is-public-reads.Asked,
   is-public-reads.Learnt,
@@ -504,7 +480,6 @@ branch-sub-block-2 : (t : ℕ) → branch-lts.Need-sub-block-2 (
 ) (branch-at t) branch.Post
 branch-sub-block-2 t c = search needs
 
--- src/walks.rt:88:17
 branch-block-requires-2 : (t : ℕ) → branch-lts.Need-block-requires-2 (
   is-public-reads.Asked,
   is-public-reads.Learnt,
@@ -525,9 +500,8 @@ branch-block-requires-2 t c κs =
     let l = c .before .before .before .before .before .before .before .before .before .before .before .pre .1 .1 in
     let b = sym (c .before .before .before .before .before .block .ensures) ∙ seen (c .before .before .before .before .before .block .result) (c .before .before .to13 .given .1) in
     let s = shut-near (a .z) (a .t .now) (a .depth - 1) (size (a .z) (a .t .now)) (a .at + 4) (viewEnv (c .before .before .before .before .before .before .guarded-env .result)) b in
-    (omega arith, record { small = p .small; short = p .short; near = omega (arith, s, p .short, p .shallow); shallow = omega (arith, p .shallow) })
+    (omega arith, (moved p (omega (arith, s, p .short, p .shallow)) (omega (arith, p .shallow)), guarded-fit (a .z) (viewEnv (a .e)) (a .register) false (c .before .before .before .before .before .before .before .before .before .before .before .pre .1 .2) (c .guarded-env2 .ensures)))
 
--- src/walks.rt:89:13
 branch-joined-requires : (t : ℕ) → branch-lts.Need-joined-requires (
   is-public-reads.Asked,
   is-public-reads.Learnt,
@@ -546,9 +520,16 @@ branch-joined-requires t c κs =
     let l = c .before .before .before .before .before .before .before .before .before .before .before .before .pre .1 .1 in
     let b = sym (c .before .before .before .before .before .before .block .ensures) ∙ seen (c .before .before .before .before .before .before .block .result) (c .before .before .before .to13 .given .1) in
     let s = shut-near (a .z) (a .t .now) (a .depth - 1) (size (a .z) (a .t .now)) (a .at + 4) (viewEnv (c .before .before .before .before .before .before .before .guarded-env .result)) b in
-    block-close (a .z) (a .t .now) (a .depth - 1) (size (a .z) (a .t .now)) _ (viewEnv (c .before .guarded-env2 .result)) (c .block2 .result) (p .short) (omega (arith, s, p .short, p .shallow)) (omega (arith, p .shallow)) (c .block2 .ensures)
+    let f = c .before .before .before .before .before .before .before .before .before .before .before .before .pre .1 .2 in
+    let f1 = guarded-fit (a .z) (viewEnv (a .e)) (a .register) true f (c .before .before .before .before .before .before .before .guarded-env .ensures) in
+    let f2 = guarded-fit (a .z) (viewEnv (a .e)) (a .register) false f (c .before .guarded-env2 .ensures) in
+    let w1 = walk-fit (a .z) (a .t .now) p _ _ _ _ (c .before .before .before .before .before .before .block .result) f1 (c .before .before .before .before .before .before .block .ensures) in
+    let w2 = walk-fit (a .z) (a .t .now) p _ _ _ _ (c .block2 .result) f2 (c .block2 .ensures) in (
+      block-close (a .z) (a .t .now) (a .depth - 1) (size (a .z) (a .t .now)) _ (viewEnv (c .before .guarded-env2 .result)) (c .block2 .result) (p .short) (omega (arith, s, p .short, p .shallow)) (omega (arith, p .shallow)) (c .block2 .ensures),
+      no-threes _ _ _ (at-shut (Fit (a .z)) (c .before .before .before .before .before .before .block .result) (c .before .before .before .to13 .given .1) w1),
+      where-map (Fit (a .z)) NoThrees (no-threes (a .z .registers) (a .z .arrays)) (viewWalk (c .block2 .result)) w2,
+    )
 
--- src/walks.rt:69:1
 branch-returns-3 : (t : ℕ) → branch-lts.Need-returns-3 (
   is-public-reads.Asked,
   is-public-reads.Learnt,
@@ -567,7 +548,6 @@ branch-returns-3 t c =
     let b = ap (blockWalk (a .z) (a .t .now) (a .depth - 1) (size (a .z) (a .t .now)) (a .at + 4)) (sym (c .before .before .before .before .before .before .guarded-env .ensures)) ∙ sym (c .before .before .before .before .before .block .ensures) ∙ seen (c .before .before .before .before .before .block .result) (c .before .before .to1 .given .1) in
     halts (c .fault3 .result) (c .fault3 .ensures) ∙ if-is (a .z) (a .t .now) (a .depth) (a .at) (a .register) (viewEnv (a .e)) h (c .before .before .before .before .before .before .before .if2 .left) b
 
--- src/walks.rt:69:1
 branch-returns-4 : (t : ℕ) → branch-lts.Need-returns-4 (
   is-public-reads.Asked,
   is-public-reads.Learnt,
@@ -586,7 +566,6 @@ branch-returns-4 t c =
     let b = ap (blockWalk (a .z) (a .t .now) (a .depth - 1) (size (a .z) (a .t .now)) (a .at + 4)) (sym (c .before .before .before .before .before .before .guarded-env .ensures)) ∙ sym (c .before .before .before .before .before .block .ensures) ∙ seen (c .before .before .before .before .before .block .result) (c .before .before .to12 .given .1) in
     halts (c .fault4 .result) (c .fault4 .ensures) ∙ if-is (a .z) (a .t .now) (a .depth) (a .at) (a .register) (viewEnv (a .e)) h (c .before .before .before .before .before .before .before .if2 .left) b
 
--- src/walks.rt:69:1
 branch-returns-5 : (t : ℕ) → branch-lts.Need-returns-5 (
   is-public-reads.Asked,
   is-public-reads.Learnt,
@@ -606,7 +585,6 @@ branch-returns-5 t c =
     let d = c .before .block2 .ensures ∙ ap (blockWalk (a .z) (a .t .now) (a .depth - 1) (size (a .z) (a .t .now)) _) (c .before .before .guarded-env2 .ensures) in
     c .joined .ensures ∙ ap (joinWalk (viewEnv (c .before .before .before .before .before .before .before .block .result .env))) d ∙ if-is (a .z) (a .t .now) (a .depth) (a .at) (a .register) (viewEnv (a .e)) h (c .before .before .before .before .before .before .before .before .before .if2 .left) b
 
--- src/walks.rt:172:9
 one-decode-requires : (t : ℕ) → one-lts.Need-decode-requires (
   decode-reads.Asked,
   decode-reads.Learnt,
@@ -623,7 +601,6 @@ one-decode-requires : (t : ℕ) → one-lts.Need-decode-requires (
 ) (one-at t) one.Post
 one-decode-requires t c κs = search needs
 
--- src/walks.rt:174:22
 one-enum-known-d : (t : ℕ) → one-lts.Need-enum-known-d (
   decode-reads.Asked,
   decode-reads.Learnt,
@@ -640,7 +617,6 @@ one-enum-known-d : (t : ℕ) → one-lts.Need-enum-known-d (
 ) (one-at t) one.Post
 one-enum-known-d t c = search needs
 
--- src/walks.rt:174:31
 one-shut-requires : (t : ℕ) → one-lts.Need-shut-requires (
   decode-reads.Asked,
   decode-reads.Learnt,
@@ -657,7 +633,6 @@ one-shut-requires : (t : ℕ) → one-lts.Need-shut-requires (
 ) (one-at t) one.Post
 one-shut-requires t c κs = search needs
 
--- src/walks.rt:175:22
 one-enum-known-d-2 : (t : ℕ) → one-lts.Need-enum-known-d-2 (
   decode-reads.Asked,
   decode-reads.Learnt,
@@ -674,7 +649,6 @@ one-enum-known-d-2 : (t : ℕ) → one-lts.Need-enum-known-d-2 (
 ) (one-at t) one.Post
 one-enum-known-d-2 t c = search needs
 
--- src/walks.rt:176:24
 one-enum-known-r : (t : ℕ) → one-lts.Need-enum-known-r (
   decode-reads.Asked,
   decode-reads.Learnt,
@@ -691,7 +665,6 @@ one-enum-known-r : (t : ℕ) → one-lts.Need-enum-known-r (
 ) (one-at t) one.Post
 one-enum-known-r t c = search needs
 
--- src/walks.rt:176:30
 one-simple-requires : (t : ℕ) → one-lts.Need-simple-requires (
   decode-reads.Asked,
   decode-reads.Learnt,
@@ -710,9 +683,9 @@ one-simple-requires t c κs =
     let a = c .before .before .before .before .before .before .before .before .args in
     let e = sym (c .before .before .before .before .before .before .decode .ensures) ∙ c .before .before .before .before .d2 .given .1 in
     let g = good (a .z) (a .t .now) (a .at) e in
-    (c .before .before .before .before .before .before .before .before .pre .1 .small, subst (Fits (a .z .registers) (a .z .arrays)) (c .before .r .given .1) (g .fits))
+    let p = c .before .before .before .before .before .before .before .before .pre .1 in
+    (p .0 .small, subst (Fits (a .z .registers) (a .z .arrays) (a .z .functions)) (c .before .r .given .1) (g .fits), no-threes _ _ _ (p .1))
 
--- src/walks.rt:177:28
 one-enum-known-r-2 : (t : ℕ) → one-lts.Need-enum-known-r-2 (
   decode-reads.Asked,
   decode-reads.Learnt,
@@ -729,7 +702,6 @@ one-enum-known-r-2 : (t : ℕ) → one-lts.Need-enum-known-r-2 (
 ) (one-at t) one.Post
 one-enum-known-r-2 t c = search needs
 
--- src/walks.rt:177:48
 one-call-requires : (t : ℕ) → one-lts.Need-call-requires (
   decode-reads.Asked,
   decode-reads.Learnt,
@@ -744,9 +716,13 @@ one-call-requires : (t : ℕ) → one-lts.Need-call-requires (
   repeat-below t,
   repeat.Post,
 ) (one-at t) one.Post
-one-call-requires t c κs = c .before .before .before .before .before .before .before .before .pre .1 .small
+one-call-requires t c κs =
+    let a = c .before .before .before .before .before .before .before .before .args in
+    let p = c .before .before .before .before .before .before .before .before .pre .1 in
+    let e = sym (c .before .before .before .before .before .before .decode .ensures) ∙ c .before .before .before .before .d2 .given .1 in
+    let l = subst (Fits (a .z .registers) (a .z .arrays) (a .z .functions)) (c .before .r2 .given .1) (good (a .z) (a .t .now) (a .at) e .fits) in
+    (p .0 .signed _ l, p .1)
 
--- src/walks.rt:178:26
 one-enum-known-r-3 : (t : ℕ) → one-lts.Need-enum-known-r-3 (
   decode-reads.Asked,
   decode-reads.Learnt,
@@ -763,7 +739,6 @@ one-enum-known-r-3 : (t : ℕ) → one-lts.Need-enum-known-r-3 (
 ) (one-at t) one.Post
 one-enum-known-r-3 t c = search needs
 
--- src/walks.rt:178:44
 one-branch-requires : (t : ℕ) → one-lts.Need-branch-requires (
   decode-reads.Asked,
   decode-reads.Learnt,
@@ -784,9 +759,8 @@ one-branch-requires t c κs =
     let e = sym (c .before .before .before .before .before .before .decode .ensures) ∙ c .before .before .before .before .d2 .given .1 in
     let g = good (a .z) (a .t .now) (a .at) e in
     let l = ap lengthOf (c .before .r3 .given .1) in
-    (omega arith, (c .before .before .before .before .before .before .before .before .pre .1, omega (arith, l, g .next, g .whole)))
+    (omega arith, (c .before .before .before .before .before .before .before .before .pre .1 .0, omega (arith, l, g .next, g .whole), c .before .before .before .before .before .before .before .before .pre .1 .1))
 
--- src/walks.rt:179:28
 one-enum-known-r-4 : (t : ℕ) → one-lts.Need-enum-known-r-4 (
   decode-reads.Asked,
   decode-reads.Learnt,
@@ -803,7 +777,6 @@ one-enum-known-r-4 : (t : ℕ) → one-lts.Need-enum-known-r-4 (
 ) (one-at t) one.Post
 one-enum-known-r-4 t c = search needs
 
--- src/walks.rt:179:36
 one-shut-requires-2 : (t : ℕ) → one-lts.Need-shut-requires-2 (
   decode-reads.Asked,
   decode-reads.Learnt,
@@ -820,7 +793,6 @@ one-shut-requires-2 : (t : ℕ) → one-lts.Need-shut-requires-2 (
 ) (one-at t) one.Post
 one-shut-requires-2 t c κs = search needs
 
--- src/walks.rt:180:30
 one-enum-told : (t : ℕ) → one-lts.Need-enum-told (
   decode-reads.Asked,
   decode-reads.Learnt,
@@ -837,7 +809,6 @@ one-enum-told : (t : ℕ) → one-lts.Need-enum-told (
 ) (one-at t) one.Post
 one-enum-told t c = search needs
 
--- src/walks.rt:180:30
 one-shut-requires-3 : (t : ℕ) → one-lts.Need-shut-requires-3 (
   decode-reads.Asked,
   decode-reads.Learnt,
@@ -854,7 +825,6 @@ one-shut-requires-3 : (t : ℕ) → one-lts.Need-shut-requires-3 (
 ) (one-at t) one.Post
 one-shut-requires-3 t c κs = search needs
 
--- src/walks.rt:181:29
 one-enum-known-r-5 : (t : ℕ) → one-lts.Need-enum-known-r-5 (
   decode-reads.Asked,
   decode-reads.Learnt,
@@ -871,7 +841,6 @@ one-enum-known-r-5 : (t : ℕ) → one-lts.Need-enum-known-r-5 (
 ) (one-at t) one.Post
 one-enum-known-r-5 t c = search needs
 
--- src/walks.rt:181:52
 one-repeat-requires : (t : ℕ) → one-lts.Need-repeat-requires (
   decode-reads.Asked,
   decode-reads.Learnt,
@@ -892,9 +861,9 @@ one-repeat-requires t c κs =
     let e = sym (c .before .before .before .before .before .before .decode .ensures) ∙ c .before .before .before .before .d2 .given .1 in
     let g = good (a .z) (a .t .now) (a .at) e in
     let l = ap lengthOf (c .before .r5 .given .1) in
-    (omega arith, (c .before .before .before .before .before .before .before .before .pre .1, omega (arith, l, g .next, g .whole)))
+    let f = subst (Fits (a .z .registers) (a .z .arrays) (a .z .functions)) (c .before .r5 .given .1) (g .fits) in
+    (omega arith, (c .before .before .before .before .before .before .before .before .pre .1 .0, omega (arith, l, g .next, g .whole), c .before .before .before .before .before .before .before .before .pre .1 .1, packed-whole _ _ _ (f .1)))
 
--- src/walks.rt:182:32
 one-enum-known-r-6 : (t : ℕ) → one-lts.Need-enum-known-r-6 (
   decode-reads.Asked,
   decode-reads.Learnt,
@@ -911,7 +880,6 @@ one-enum-known-r-6 : (t : ℕ) → one-lts.Need-enum-known-r-6 (
 ) (one-at t) one.Post
 one-enum-known-r-6 t c = search needs
 
--- src/walks.rt:182:40
 one-shut-requires-4 : (t : ℕ) → one-lts.Need-shut-requires-4 (
   decode-reads.Asked,
   decode-reads.Learnt,
@@ -928,7 +896,6 @@ one-shut-requires-4 : (t : ℕ) → one-lts.Need-shut-requires-4 (
 ) (one-at t) one.Post
 one-shut-requires-4 t c κs = search needs
 
--- src/walks.rt:183:31
 one-enum-told-2 : (t : ℕ) → one-lts.Need-enum-told-2 (
   decode-reads.Asked,
   decode-reads.Learnt,
@@ -945,7 +912,6 @@ one-enum-told-2 : (t : ℕ) → one-lts.Need-enum-told-2 (
 ) (one-at t) one.Post
 one-enum-told-2 t c = search needs
 
--- src/walks.rt:183:31
 one-shut-requires-5 : (t : ℕ) → one-lts.Need-shut-requires-5 (
   decode-reads.Asked,
   decode-reads.Learnt,
@@ -962,7 +928,6 @@ one-shut-requires-5 : (t : ℕ) → one-lts.Need-shut-requires-5 (
 ) (one-at t) one.Post
 one-shut-requires-5 t c κs = search needs
 
--- src/walks.rt:168:1
 one-returns : (t : ℕ) → one-lts.Need-returns (
   decode-reads.Asked,
   decode-reads.Learnt,
@@ -982,7 +947,6 @@ one-returns t c =
     let r = record-bad (a .z) (a .t .now) (a .at) (sym (c .before .before .before .before .decode .ensures) ∙ c .before .before .d .given .1) in
     c .shut .ensures ∙ record-is (a .z) (a .t .now) (a .depth) (a .at) (viewEnv (a .e)) r
 
--- src/walks.rt:168:1
 one-returns-2 : (t : ℕ) → one-lts.Need-returns-2 (
   decode-reads.Asked,
   decode-reads.Learnt,
@@ -1004,7 +968,6 @@ one-returns-2 t c =
     let n = good (a .z) (a .t .now) (a .at) e .next ∙ ap (λ (i : Record). a .at + lengthOf i) (c .before .before .r .given .1) in
     c .simple .ensures ∙ ap (λ (n : ℕ). simpleWalk (a .z) (c .before .before .r .given .0 .0) (a .at) n (viewEnv (a .e))) n ∙ record-is (a .z) (a .t .now) (a .depth) (a .at) (viewEnv (a .e)) r
 
--- src/walks.rt:168:1
 one-returns-3 : (t : ℕ) → one-lts.Need-returns-3 (
   decode-reads.Asked,
   decode-reads.Learnt,
@@ -1026,7 +989,6 @@ one-returns-3 t c =
     let n = good (a .z) (a .t .now) (a .at) e .next ∙ ap (λ (i : Record). a .at + lengthOf i) (c .before .before .r2 .given .1) in
     c .call .ensures ∙ ap (λ (n : ℕ). callWalk (a .z) (a .t .now) (c .before .before .r2 .given .0 .0) (c .before .before .r2 .given .0 .1 .0) (a .at) n (viewEnv (a .e))) n ∙ record-is (a .z) (a .t .now) (a .depth) (a .at) (viewEnv (a .e)) r
 
--- src/walks.rt:168:1
 one-returns-4 : (t : ℕ) → one-lts.Need-returns-4 (
   decode-reads.Asked,
   decode-reads.Learnt,
@@ -1047,7 +1009,6 @@ one-returns-4 t c =
     let r = record-got (a .z) (a .t .now) (a .at) e ∙ c .before .before .r3 .given .1 in
     c .branch .ensures ∙ record-is (a .z) (a .t .now) (a .depth) (a .at) (viewEnv (a .e)) r
 
--- src/walks.rt:168:1
 one-returns-5 : (t : ℕ) → one-lts.Need-returns-5 (
   decode-reads.Asked,
   decode-reads.Learnt,
@@ -1068,7 +1029,6 @@ one-returns-5 t c =
     let r = record-got (a .z) (a .t .now) (a .at) e ∙ c .before .before .r4 .given .1 in
     c .shut2 .ensures ∙ record-is (a .z) (a .t .now) (a .depth) (a .at) (viewEnv (a .e)) r
 
--- src/walks.rt:168:1
 one-returns-6 : (t : ℕ) → one-lts.Need-returns-6 (
   decode-reads.Asked,
   decode-reads.Learnt,
@@ -1089,7 +1049,6 @@ one-returns-6 t c =
     let r = record-got (a .z) (a .t .now) (a .at) e ∙ c .before .enum-told .given .1 in
     c .shut3 .ensures ∙ record-is (a .z) (a .t .now) (a .depth) (a .at) (viewEnv (a .e)) r
 
--- src/walks.rt:168:1
 one-returns-7 : (t : ℕ) → one-lts.Need-returns-7 (
   decode-reads.Asked,
   decode-reads.Learnt,
@@ -1110,7 +1069,6 @@ one-returns-7 t c =
     let r = record-got (a .z) (a .t .now) (a .at) e ∙ c .before .before .r5 .given .1 in
     c .repeat .ensures ∙ record-is (a .z) (a .t .now) (a .depth) (a .at) (viewEnv (a .e)) r
 
--- src/walks.rt:168:1
 one-returns-8 : (t : ℕ) → one-lts.Need-returns-8 (
   decode-reads.Asked,
   decode-reads.Learnt,
@@ -1131,7 +1089,6 @@ one-returns-8 t c =
     let r = record-got (a .z) (a .t .now) (a .at) e ∙ c .before .before .r6 .given .1 in
     c .shut4 .ensures ∙ record-is (a .z) (a .t .now) (a .depth) (a .at) (viewEnv (a .e)) r
 
--- src/walks.rt:168:1
 one-returns-9 : (t : ℕ) → one-lts.Need-returns-9 (
   decode-reads.Asked,
   decode-reads.Learnt,
@@ -1152,7 +1109,6 @@ one-returns-9 t c =
     let r = record-got (a .z) (a .t .now) (a .at) e ∙ c .before .enum-told2 .given .1 in
     c .shut5 .ensures ∙ record-is (a .z) (a .t .now) (a .depth) (a .at) (viewEnv (a .e)) r
 
--- src/walks.rt:128:9
 repeat-unpack-requires : (t : ℕ) → repeat-lts.Need-unpack-requires (
   unpack-reads.Asked,
   unpack-reads.Learnt,
@@ -1171,7 +1127,6 @@ repeat-unpack-requires : (t : ℕ) → repeat-lts.Need-unpack-requires (
 ) (repeat-at t) repeat.Post
 repeat-unpack-requires t c κs = search needs
 
--- src/walks.rt:129:9
 repeat-env-within-requires : (t : ℕ) → repeat-lts.Need-env-within-requires (
   unpack-reads.Asked,
   unpack-reads.Learnt,
@@ -1188,9 +1143,8 @@ repeat-env-within-requires : (t : ℕ) → repeat-lts.Need-env-within-requires (
   back-reads.Asked,
   back-reads.Learnt,
 ) (repeat-at t) repeat.Post
-repeat-env-within-requires t c κs = c .before .before .pre .1 .0 .small
+repeat-env-within-requires t c κs = search needs
 
--- src/walks.rt:130:9
 repeat-fault-requires : (t : ℕ) → repeat-lts.Need-fault-requires (
   unpack-reads.Asked,
   unpack-reads.Learnt,
@@ -1209,7 +1163,6 @@ repeat-fault-requires : (t : ℕ) → repeat-lts.Need-fault-requires (
 ) (repeat-at t) repeat.Post
 repeat-fault-requires t c κs = search needs
 
--- src/walks.rt:130:9
 repeat-returns : (t : ℕ) → repeat-lts.Need-returns (
   unpack-reads.Asked,
   unpack-reads.Learnt,
@@ -1228,10 +1181,10 @@ repeat-returns : (t : ℕ) → repeat-lts.Need-returns (
 ) (repeat-at t) repeat.Post
 repeat-returns t c =
     let a = c .before .before .before .before .before .args in
-    let w = within-packed (a .z) (viewEnv (a .e)) (a .packed) (c .before .before .env-within .ensures) (c .before .before .before .unpack .ensures) (not-true (c .before .before .env-within .result) (c .before .if1 .taken)) in
+    let p = c .before .before .before .before .before .pre .1 in
+    let w = within-packed (a .z) (viewEnv (a .e)) (a .packed) (p .2) (p .3) (c .before .before .env-within .ensures) (c .before .before .before .unpack .ensures) (not-true (c .before .before .env-within .result) (c .before .if1 .taken)) in
     halts (c .fault .result) (c .fault .ensures) ∙ while-out (a .z) (a .t .now) (a .depth) (a .at) (a .register) (a .packed) (viewEnv (a .e)) w
 
--- src/walks.rt:132:9
 repeat-is-public-requires : (t : ℕ) → repeat-lts.Need-is-public-requires (
   unpack-reads.Asked,
   unpack-reads.Learnt,
@@ -1250,7 +1203,6 @@ repeat-is-public-requires : (t : ℕ) → repeat-lts.Need-is-public-requires (
 ) (repeat-at t) repeat.Post
 repeat-is-public-requires t c κs = search needs
 
--- src/walks.rt:133:9
 repeat-fault-requires-2 : (t : ℕ) → repeat-lts.Need-fault-requires-2 (
   unpack-reads.Asked,
   unpack-reads.Learnt,
@@ -1269,7 +1221,6 @@ repeat-fault-requires-2 : (t : ℕ) → repeat-lts.Need-fault-requires-2 (
 ) (repeat-at t) repeat.Post
 repeat-fault-requires-2 t c κs = search needs
 
--- src/walks.rt:133:9
 repeat-returns-2 : (t : ℕ) → repeat-lts.Need-returns-2 (
   unpack-reads.Asked,
   unpack-reads.Learnt,
@@ -1288,11 +1239,11 @@ repeat-returns-2 : (t : ℕ) → repeat-lts.Need-returns-2 (
 ) (repeat-at t) repeat.Post
 repeat-returns-2 t c =
     let a = c .before .before .before .before .before .before .before .args in
-    let w = within-packed (a .z) (viewEnv (a .e)) (a .packed) (c .before .before .before .before .env-within .ensures) (c .before .before .before .before .before .unpack .ensures) (not-false (c .before .before .before .before .env-within .result) (c .before .before .before .if1 .left)) in
+    let p = c .before .before .before .before .before .before .before .pre .1 in
+    let w = within-packed (a .z) (viewEnv (a .e)) (a .packed) (p .2) (p .3) (c .before .before .before .before .env-within .ensures) (c .before .before .before .before .before .unpack .ensures) (not-false (c .before .before .before .before .env-within .result) (c .before .before .before .if1 .left)) in
     let h = ap (λ (E : Environment). eqb (E .regs (a .register)) 0) (sym (c .before .before .before .before .before .unpack .ensures)) ∙ sym (c .before .before .is-public .ensures) ∙ not-true (c .before .before .is-public .result) (c .before .if2 .taken) in
     halts (c .fault2 .result) (c .fault2 .ensures) ∙ while-private (a .z) (a .t .now) (a .depth) (a .at) (a .register) (a .packed) (viewEnv (a .e)) w h
 
--- src/walks.rt:136:9
 repeat-fault-requires-3 : (t : ℕ) → repeat-lts.Need-fault-requires-3 (
   unpack-reads.Asked,
   unpack-reads.Learnt,
@@ -1311,7 +1262,6 @@ repeat-fault-requires-3 : (t : ℕ) → repeat-lts.Need-fault-requires-3 (
 ) (repeat-at t) repeat.Post
 repeat-fault-requires-3 t c κs = search needs
 
--- src/walks.rt:136:9
 repeat-returns-3 : (t : ℕ) → repeat-lts.Need-returns-3 (
   unpack-reads.Asked,
   unpack-reads.Learnt,
@@ -1330,11 +1280,11 @@ repeat-returns-3 : (t : ℕ) → repeat-lts.Need-returns-3 (
 ) (repeat-at t) repeat.Post
 repeat-returns-3 t c =
     let a = c .before .before .before .before .before .before .before .before .args in
-    let w = within-packed (a .z) (viewEnv (a .e)) (a .packed) (c .before .before .before .before .before .env-within .ensures) (c .before .before .before .before .before .before .unpack .ensures) (not-false (c .before .before .before .before .before .env-within .result) (c .before .before .before .before .if1 .left)) in
+    let p = c .before .before .before .before .before .before .before .before .pre .1 in
+    let w = within-packed (a .z) (viewEnv (a .e)) (a .packed) (p .2) (p .3) (c .before .before .before .before .before .env-within .ensures) (c .before .before .before .before .before .before .unpack .ensures) (not-false (c .before .before .before .before .before .env-within .result) (c .before .before .before .before .if1 .left)) in
     let h = ap (λ (E : Environment). eqb (E .regs (a .register)) 0) (sym (c .before .before .before .before .before .before .unpack .ensures)) ∙ sym (c .before .before .before .is-public .ensures) ∙ not-false (c .before .before .before .is-public .result) (c .before .before .if2 .left) in
     halts (c .fault3 .result) (c .fault3 .ensures) ∙ while-deep (a .z) (a .t .now) (a .depth) (a .at) (a .register) (a .packed) (viewEnv (a .e)) w h (c .before .if3 .taken)
 
--- src/walks.rt:138:9
 repeat-guarded-env-requires : (t : ℕ) → repeat-lts.Need-guarded-env-requires (
   unpack-reads.Asked,
   unpack-reads.Learnt,
@@ -1353,7 +1303,6 @@ repeat-guarded-env-requires : (t : ℕ) → repeat-lts.Need-guarded-env-requires
 ) (repeat-at t) repeat.Post
 repeat-guarded-env-requires t c κs = search needs
 
--- src/walks.rt:139:28
 repeat-add-block : (t : ℕ) → repeat-lts.Need-add-block (
   unpack-reads.Asked,
   unpack-reads.Learnt,
@@ -1374,7 +1323,6 @@ repeat-add-block t c =
     let p = c .before .before .before .before .before .before .before .before .pre .1 .0 .near in
     search needs
 
--- src/walks.rt:139:37
 repeat-sub-block : (t : ℕ) → repeat-lts.Need-sub-block (
   unpack-reads.Asked,
   unpack-reads.Learnt,
@@ -1393,7 +1341,6 @@ repeat-sub-block : (t : ℕ) → repeat-lts.Need-sub-block (
 ) (repeat-at t) repeat.Post
 repeat-sub-block t c = search needs
 
--- src/walks.rt:139:9
 repeat-block-requires : (t : ℕ) → repeat-lts.Need-block-requires (
   unpack-reads.Asked,
   unpack-reads.Learnt,
@@ -1415,9 +1362,10 @@ repeat-block-requires t c κs =
     let m = c .before .before .before .before .before .before .before .before .pre .0 in
     let p = c .before .before .before .before .before .before .before .before .pre .1 .0 in
     let l = c .before .before .before .before .before .before .before .before .pre .1 .1 in
-    (omega arith, record { small = p .small; short = p .short; near = omega (arith, p .short); shallow = omega (arith, p .shallow) })
+    let a = c .before .before .before .before .before .before .before .before .args in
+    let g = c .guarded-env .ensures ∙ ap (λ (E : Environment). guarded E (a .register) true) (c .before .before .before .before .before .before .unpack .ensures) in
+    (omega arith, (moved p (omega (arith, p .short)) (omega (arith, p .shallow)), guarded-fit (a .z) (envOf (a .packed)) (a .register) true (c .before .before .before .before .before .before .before .before .pre .1 .3) g))
 
--- src/walks.rt:140:5
 repeat-back-requires : (t : ℕ) → repeat-lts.Need-back-requires (
   unpack-reads.Asked,
   unpack-reads.Learnt,
@@ -1438,9 +1386,11 @@ repeat-back-requires t c κs =
     let a = c .before .before .before .before .before .before .before .before .before .args in
     let p = c .before .before .before .before .before .before .before .before .before .pre .1 .0 in
     let l = c .before .before .before .before .before .before .before .before .before .pre .1 .1 in
-    (p .small, block-close (a .z) (a .t .now) (a .depth - 1) (size (a .z) (a .t .now)) (a .at + 11) (viewEnv (c .before .guarded-env .result)) (c .block .result) (p .short) (omega (arith, p .short)) (omega (arith, p .shallow)) (c .block .ensures))
+    let k = c .before .before .before .before .before .before .before .before .before .pre .1 .3 in
+    let g = c .before .guarded-env .ensures ∙ ap (λ (E : Environment). guarded E (a .register) true) (c .before .before .before .before .before .before .before .unpack .ensures) in
+    let w = walk-fit (a .z) (a .t .now) p _ _ _ _ (c .block .result) (guarded-fit (a .z) (envOf (a .packed)) (a .register) true k g) (c .block .ensures) in
+    (block-close (a .z) (a .t .now) (a .depth - 1) (size (a .z) (a .t .now)) (a .at + 11) (viewEnv (c .before .guarded-env .result)) (c .block .result) (p .short) (omega (arith, p .short)) (omega (arith, p .shallow)) (c .block .ensures), w, k)
 
--- src/walks.rt:124:1
 repeat-returns-4 : (t : ℕ) → repeat-lts.Need-returns-4 (
   unpack-reads.Asked,
   unpack-reads.Learnt,
@@ -1459,7 +1409,8 @@ repeat-returns-4 : (t : ℕ) → repeat-lts.Need-returns-4 (
 ) (repeat-at t) repeat.Post
 repeat-returns-4 t c =
     let a = c .before .before .before .before .before .before .before .before .before .before .args in
-    let w = within-packed (a .z) (viewEnv (a .e)) (a .packed) (c .before .before .before .before .before .before .before .env-within .ensures) (c .before .before .before .before .before .before .before .before .unpack .ensures) (not-false (c .before .before .before .before .before .before .before .env-within .result) (c .before .before .before .before .before .before .if1 .left)) in
+    let p = c .before .before .before .before .before .before .before .before .before .before .pre .1 in
+    let w = within-packed (a .z) (viewEnv (a .e)) (a .packed) (p .2) (p .3) (c .before .before .before .before .before .before .before .env-within .ensures) (c .before .before .before .before .before .before .before .before .unpack .ensures) (not-false (c .before .before .before .before .before .before .before .env-within .result) (c .before .before .before .before .before .before .if1 .left)) in
     let h = ap (λ (E : Environment). eqb (E .regs (a .register)) 0) (sym (c .before .before .before .before .before .before .before .before .unpack .ensures)) ∙ sym (c .before .before .before .before .before .is-public .ensures) ∙ not-false (c .before .before .before .before .before .is-public .result) (c .before .before .before .before .if2 .left) in
     let d = c .before .block .ensures ∙ ap (blockWalk (a .z) (a .t .now) (a .depth - 1) (size (a .z) (a .t .now)) (a .at + 11)) (c .before .before .guarded-env .ensures ∙ ap (λ (E : Environment). guarded E (a .register) true) (c .before .before .before .before .before .before .before .before .unpack .ensures)) in
     c .back .ensures ∙ ap (backWalk (a .z) (a .register) (a .packed)) d ∙ while-is (a .z) (a .t .now) (a .depth) (a .at) (a .register) (a .packed) (viewEnv (a .e)) w h (c .before .before .before .if3 .left)

@@ -22,7 +22,6 @@ abbrev functions-below : ℕ → In 1 functions-kinds.ps
 functions-below t =
     and 1 functions-kinds.ps (falls 1 functions-kinds.ps _<_ μ-functions t) functions.Pre
 
--- src/walks.rt:252:9
 functions-returns : (t : ℕ) → functions-lts.Need-returns (
   function-reads.Asked,
   function-reads.Learnt,
@@ -33,7 +32,6 @@ functions-returns t c =
     let a = c .before .before .args in
     functions-none (a .z) (a .t .now) (a .n) (c .if1 .taken)
 
--- src/walks.rt:254:13
 functions-sub-g : (t : ℕ) → functions-lts.Need-sub-g (
   function-reads.Asked,
   function-reads.Learnt,
@@ -42,16 +40,14 @@ functions-sub-g : (t : ℕ) → functions-lts.Need-sub-g (
 ) (functions-at t) functions.Post
 functions-sub-g t c = search needs
 
--- src/walks.rt:255:9
 functions-function-requires : (t : ℕ) → functions-lts.Need-function-requires (
   function-reads.Asked,
   function-reads.Learnt,
   functions-below t,
   functions.Post,
 ) (functions-at t) functions.Post
-functions-function-requires t c κs = c .before .before .before .pre .1 .0
+functions-function-requires t c κs = (c .before .before .before .pre .1 .0, omega arith)
 
--- src/walks.rt:257:22
 functions-enum-known-w : (t : ℕ) → functions-lts.Need-enum-known-w (
   function-reads.Asked,
   function-reads.Learnt,
@@ -60,7 +56,6 @@ functions-enum-known-w : (t : ℕ) → functions-lts.Need-enum-known-w (
 ) (functions-at t) functions.Post
 functions-enum-known-w t c = search needs
 
--- src/walks.rt:258:23
 functions-enum-known-w-2 : (t : ℕ) → functions-lts.Need-enum-known-w-2 (
   function-reads.Asked,
   function-reads.Learnt,
@@ -69,7 +64,6 @@ functions-enum-known-w-2 : (t : ℕ) → functions-lts.Need-enum-known-w-2 (
 ) (functions-at t) functions.Post
 functions-enum-known-w-2 t c = search needs
 
--- src/walks.rt:259:22
 functions-enum-known-w-3 : (t : ℕ) → functions-lts.Need-enum-known-w-3 (
   function-reads.Asked,
   function-reads.Learnt,
@@ -78,7 +72,6 @@ functions-enum-known-w-3 : (t : ℕ) → functions-lts.Need-enum-known-w-3 (
 ) (functions-at t) functions.Post
 functions-enum-known-w-3 t c = search needs
 
--- src/walks.rt:259:44
 functions-sub-functions : (t : ℕ) → functions-lts.Need-sub-functions (
   function-reads.Asked,
   function-reads.Learnt,
@@ -87,7 +80,6 @@ functions-sub-functions : (t : ℕ) → functions-lts.Need-sub-functions (
 ) (functions-at t) functions.Post
 functions-sub-functions t c = search needs
 
--- src/walks.rt:259:28
 functions-functions-requires : (t : ℕ) → functions-lts.Need-functions-requires (
   function-reads.Asked,
   function-reads.Learnt,
@@ -100,7 +92,6 @@ functions-functions-requires t c κs =
     let p = c .before .before .before .before .before .before .before .pre .1 in
     (omega arith, (p .0, omega (arith, p .1)))
 
--- src/walks.rt:247:1
 functions-returns-2 : (t : ℕ) → functions-lts.Need-returns-2 (
   function-reads.Asked,
   function-reads.Learnt,
@@ -111,7 +102,6 @@ functions-returns-2 t c =
     let a = c .before .before .before .before .before .before .before .args in
     functions-is (a .z) (a .t .now) (a .n) (c .before .before .before .before .before .if1 .left) (sym (c .before .before .before .function .ensures) ∙ c .before .w .given .1)
 
--- src/walks.rt:247:1
 functions-returns-3 : (t : ℕ) → functions-lts.Need-returns-3 (
   function-reads.Asked,
   function-reads.Learnt,
@@ -122,7 +112,6 @@ functions-returns-3 t c =
     let a = c .before .before .before .before .before .before .before .args in
     functions-is (a .z) (a .t .now) (a .n) (c .before .before .before .before .before .if1 .left) (sym (c .before .before .before .function .ensures) ∙ c .before .w2 .given .1)
 
--- src/walks.rt:247:1
 functions-returns-4 : (t : ℕ) → functions-lts.Need-returns-4 (
   function-reads.Asked,
   function-reads.Learnt,

@@ -5,8 +5,8 @@ use borrow.Author.Needs.{needs}
 use Rattle.model.specs.Rules.{guarded}
 use Rattle.model.specs.Levels.{Env as Environment}
 use Rattle.typing.specs.Walks.{backWalk, Close}
-use Rattle.typing.specs.Envs.{viewEnv}
-use Rattle.typing.proofs.Turns.{seen, halts, within-packed, back-on, back-out}
+use Rattle.typing.specs.Envs.{viewEnv, Fit}
+use Rattle.typing.proofs.Turns.{seen, halts, at-shut, within-packed, back-on, back-out}
 use Rattle.typing.proofs.walks.back.Statement.{statement}
 use Rattle.typing.proofs.walks.back.Tie as tie
 use Rattle.typing.proofs.walks.back.Reads as reads
@@ -16,74 +16,62 @@ use Rattle.typing.proofs.environments.guarded_env.Reads as guarded-env-
 use Rattle.typing.proofs.environments.unpack.Reads as unpack-reads
 use Rattle.typing.proofs.walks.fault.Reads as fault-reads
 
--- src/walks.rt:151:22
 enum-known-to : tie.Need-enum-known-to
 enum-known-to c = search needs
 
--- src/walks.rt:151:28
 fault-requires : tie.Need-fault-requires
 fault-requires c κs = search needs
 
--- src/walks.rt:152:23
 enum-known-to-2 : tie.Need-enum-known-to-2
 enum-known-to-2 c = search needs
 
--- src/walks.rt:152:32
 fault-requires-2 : tie.Need-fault-requires-2
 fault-requires-2 c κs = search needs
 
--- src/walks.rt:153:22
 enum-known-to-3 : tie.Need-enum-known-to-3
 enum-known-to-3 c = search needs
 
--- src/walks.rt:154:17
 unpack-requires : tie.Need-unpack-requires
 unpack-requires c κs = search needs
 
--- src/walks.rt:155:17
 env-within-requires : tie.Need-env-within-requires
 env-within-requires c κs = search needs
 
--- src/walks.rt:156:17
 fault-requires-3 : tie.Need-fault-requires-3
 fault-requires-3 c κs = search needs
 
--- src/walks.rt:156:17
 returns : tie.Need-returns
 returns c =
     let a = c .before .before .before .before .before .before .before .before .args in
+    let p = c .before .before .before .before .before .before .before .before .pre in
     let e = viewEnv (a .body .env) in
-    let w = within-packed (a .z) e (a .packed) (c .before .before .env-within .ensures) (c .before .before .before .unpack .ensures) (not-true (c .before .before .env-within .result) (c .before .if1 .taken)) in
+    let w = within-packed (a .z) e (a .packed) (at-shut (Fit (a .z)) (a .body) (c .before .before .before .before .before .to3 .given .1) (p .1)) (p .2) (c .before .before .env-within .ensures) (c .before .before .before .unpack .ensures) (not-true (c .before .before .env-within .result) (c .before .if1 .taken)) in
     halts (c .fault3 .result) (c .fault3 .ensures) ∙ back-out (a .z) (a .register) (a .packed) _ e w ∙ sym (ap (backWalk (a .z) (a .register) (a .packed)) (seen (a .body) (c .before .before .before .before .before .to3 .given .1)))
 
--- src/walks.rt:158:17
 guarded-env-requires : tie.Need-guarded-env-requires
 guarded-env-requires c κs = search needs
 
--- src/walks.rt:160:34
 add-t16 : tie.Need-add-t16
 add-t16 c =
-    let h = subst Close (c .before .before .before .before .before .to3 .given .1) (c .before .before .before .before .before .before .before .before .pre .1) in
+    let h = subst Close (c .before .before .before .before .before .to3 .given .1) (c .before .before .before .before .before .before .before .before .pre .0) in
     search needs
 
--- src/walks.rt:144:1
 returns-2 : tie.Need-returns-2
 returns-2 c =
     let a = c .before .before .before .before .before .args in
     halts (c .fault .result) (c .fault .ensures) ∙ sym (ap (backWalk (a .z) (a .register) (a .packed)) (seen (a .body) (c .before .before .to .given .1)))
 
--- src/walks.rt:144:1
 returns-3 : tie.Need-returns-3
 returns-3 c =
     let a = c .before .before .before .before .before .args in
     halts (c .fault2 .result) (c .fault2 .ensures) ∙ sym (ap (backWalk (a .z) (a .register) (a .packed)) (seen (a .body) (c .before .before .to2 .given .1)))
 
--- src/walks.rt:144:1
 returns-4 : tie.Need-returns-4
 returns-4 c =
     let a = c .before .before .before .before .before .before .before .before .args in
+    let p = c .before .before .before .before .before .before .before .before .pre in
     let e = viewEnv (a .body .env) in
-    let w = within-packed (a .z) e (a .packed) (c .before .before .env-within .ensures) (c .before .before .before .unpack .ensures) (not-false (c .before .before .env-within .result) (c .before .if1 .left)) in
+    let w = within-packed (a .z) e (a .packed) (at-shut (Fit (a .z)) (a .body) (c .before .before .before .before .before .to3 .given .1) (p .1)) (p .2) (c .before .before .env-within .ensures) (c .before .before .before .unpack .ensures) (not-false (c .before .before .env-within .result) (c .before .if1 .left)) in
     let g = c .guarded-env .ensures ∙ ap (λ (E : Environment). guarded E (a .register) false) (c .before .before .before .unpack .ensures) in
     back-on (a .z) (a .register) (a .packed) _ e w g ∙ sym (ap (backWalk (a .z) (a .register) (a .packed)) (seen (a .body) (c .before .before .before .before .before .to3 .given .1)))
 

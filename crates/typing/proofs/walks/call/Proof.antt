@@ -16,43 +16,37 @@ use Rattle.typing.proofs.environments.env_within.Reads as env-within-re
 use Rattle.typing.proofs.environments.returned_env.Reads as returned-env-reads
 use Rattle.typing.proofs.environments.unpack.Reads as unpack-reads
 
--- src/walks.rt:53:23
 in-of-requires : tie.Need-in-of-requires
 in-of-requires c κs = search needs
 
--- src/walks.rt:53:9
 unpack-requires : tie.Need-unpack-requires
 unpack-requires c κs = search needs
 
--- src/walks.rt:54:8
 env-within-requires : tie.Need-env-within-requires
 env-within-requires c κs = search needs
 
--- src/walks.rt:55:26
 out-of-requires : tie.Need-out-of-requires
 out-of-requires c κs = search needs
 
--- src/walks.rt:55:13
 unpack-requires-2 : tie.Need-unpack-requires-2
 unpack-requires-2 c κs = search needs
 
--- src/walks.rt:56:13
 returned-env-requires : tie.Need-returned-env-requires
 returned-env-requires c κs = search needs
 
--- src/walks.rt:57:9
 returns : tie.Need-returns
 returns c =
     let a = c .before .before .before .before .before .before .before .before .args in
-    let w = within-packed (a .z) (viewEnv (a .e)) (inOf (a .z) (a .t .now) (a .function)) (c .before .before .before .before .env-within .ensures) (c .before .before .before .before .before .unpack .ensures ∙ ap envOf (c .before .before .before .before .before .before .in-of .ensures)) (c .before .before .before .if1 .taken) in
+    let p = c .before .before .before .before .before .before .before .before .pre in
+    let w = within-packed (a .z) (viewEnv (a .e)) (inOf (a .z) (a .t .now) (a .function)) (p .1) (p .0 .0) (c .before .before .before .before .env-within .ensures) (c .before .before .before .before .before .unpack .ensures ∙ ap envOf (c .before .before .before .before .before .before .in-of .ensures)) (c .before .before .before .if1 .taken) in
     let o = c .returned-env .ensures ∙ ap (λ (E : Environment). returned E (a .mark) (viewEnv (a .e))) (c .before .unpack2 .ensures ∙ ap envOf (c .before .before .out-of .ensures)) in
     call-on (a .z) (a .t .now) (a .function) (a .mark) (a .at) (a .next) (viewEnv (a .e)) w o
 
--- src/walks.rt:49:1
 returns-2 : tie.Need-returns-2
 returns-2 c =
     let a = c .before .before .before .before .before .args in
-    let w = within-packed (a .z) (viewEnv (a .e)) (inOf (a .z) (a .t .now) (a .function)) (c .before .env-within .ensures) (c .before .before .unpack .ensures ∙ ap envOf (c .before .before .before .in-of .ensures)) (c .if1 .left) in
+    let p = c .before .before .before .before .before .pre in
+    let w = within-packed (a .z) (viewEnv (a .e)) (inOf (a .z) (a .t .now) (a .function)) (p .1) (p .0 .0) (c .before .env-within .ensures) (c .before .before .unpack .ensures ∙ ap envOf (c .before .before .before .in-of .ensures)) (c .if1 .left) in
     call-out (a .z) (a .t .now) (a .function) (a .mark) (a .at) (a .next) (viewEnv (a .e)) w
 
 pub call-spec : {M : Type 1} → statement M

@@ -1,11 +1,12 @@
 use native.Mathlib.Omega.{arith}
-use mathlib.Core.Path.{ap, _∙_}
+use mathlib.Core.Path.{sym, ap, subst, _∙_}
 use borrow.Author.Needs.{needs}
 use Rattle.model.specs.Packing.{envOf}
 use Rattle.format.specs.Layout.{outOf}
 use Rattle.typing.specs.Walks.{bare}
-use Rattle.typing.specs.Envs.{viewEnv}
-use Rattle.typing.proofs.Turns.{seen, within-packed, function-block, function-is, function-on, function-out}
+use Rattle.typing.specs.Envs.{viewEnv, Fit}
+use Rattle.typing.proofs.Ready.{moved}
+use Rattle.typing.proofs.Turns.{seen, at-shut, within-packed, walk-fit, function-block, function-is, function-on, function-out}
 use Rattle.typing.proofs.walks.function.Statement.{statement}
 use Rattle.typing.proofs.walks.function.Tie as tie
 use Rattle.typing.proofs.walks.function.Reads as reads
@@ -17,76 +18,69 @@ use Rattle.typing.proofs.environments.env_within.Reads as env-within-re
 use Rattle.typing.proofs.environments.unpack.Reads as unpack-reads
 use Rattle.typing.proofs.walks.block.Reads as block-reads
 
--- src/walks.rt:228:9
 start-of-requires : tie.Need-start-of-requires
 start-of-requires c κs = search needs
 
--- src/walks.rt:229:23
 in-of-requires : tie.Need-in-of-requires
 in-of-requires c κs = search needs
 
--- src/walks.rt:229:9
 unpack-requires : tie.Need-unpack-requires
 unpack-requires c κs = search needs
 
--- src/walks.rt:230:9
 block-requires : tie.Need-block-requires
 block-requires c κs =
+    let a = c .before .before .before .before .args in
     let p = c .before .before .before .before .pre in
     let s = c .before .before .start-of .ensures .1 in
-    record { small = p .small; short = p .short; near = omega arith; shallow = omega arith }
+    (moved (p .0) (omega arith) (omega arith), subst (Fit (a .z)) (sym (c .unpack .ensures ∙ ap envOf (c .before .in-of .ensures))) (p .0 .signed (a .g) (p .1) .0))
 
--- src/walks.rt:234:22
 enum-known-to : tie.Need-enum-known-to
 enum-known-to c = search needs
 
--- src/walks.rt:235:23
 enum-known-to-2 : tie.Need-enum-known-to-2
 enum-known-to-2 c = search needs
 
--- src/walks.rt:236:22
 enum-known-to-3 : tie.Need-enum-known-to-3
 enum-known-to-3 c = search needs
 
--- src/walks.rt:237:30
 out-of-requires : tie.Need-out-of-requires
 out-of-requires c κs = search needs
 
--- src/walks.rt:237:17
 unpack-requires-2 : tie.Need-unpack-requires-2
 unpack-requires-2 c κs = search needs
 
--- src/walks.rt:238:16
 env-within-requires : tie.Need-env-within-requires
 env-within-requires c κs = search needs
 
--- src/walks.rt:239:17
 returns : tie.Need-returns
 returns c =
     let a = c .before .before .before .before .before .before .before .before .before .before .before .before .before .args in
+    let p = c .before .before .before .before .before .before .before .before .before .before .before .before .before .pre in
     let e = viewEnv (c .before .before .before .before .before .before .before .before .block .result .env) in
-    let w = within-packed (a .z) e (outOf (a .z) (a .t .now) (a .g)) (c .before .env-within .ensures) (c .before .before .unpack2 .ensures ∙ ap envOf (c .before .before .before .out-of .ensures)) (c .if1 .taken) in
+    let into = c .before .before .before .before .before .before .before .before .before .unpack .ensures ∙ ap envOf (c .before .before .before .before .before .before .before .before .before .before .in-of .ensures) in
+    let f = walk-fit (a .z) (a .t .now) (p .0) 16 _ _ _ (c .before .before .before .before .before .before .before .before .block .result) (subst (Fit (a .z)) (sym into) (p .0 .signed (a .g) (p .1) .0)) (c .before .before .before .before .before .before .before .before .block .ensures) in
+    let w = within-packed (a .z) e (outOf (a .z) (a .t .now) (a .g)) (at-shut (Fit (a .z)) (c .before .before .before .before .before .before .before .before .block .result) (c .before .before .before .before .before .to3 .given .1) f) (p .0 .signed (a .g) (p .1) .1) (c .before .env-within .ensures) (c .before .before .unpack2 .ensures ∙ ap envOf (c .before .before .before .out-of .ensures)) (c .if1 .taken) in
     let b = function-block (a .z) (a .t .now) (a .g) (c .before .before .before .before .before .before .before .before .before .before .before .start-of .ensures .0) (c .before .before .before .before .before .before .before .before .before .unpack .ensures ∙ ap envOf (c .before .before .before .before .before .before .before .before .before .before .in-of .ensures)) (c .before .before .before .before .before .before .before .before .block .ensures) (seen (c .before .before .before .before .before .before .before .before .block .result) (c .before .before .before .before .before .to3 .given .1)) in
     ap bare (function-on (a .z) (a .t .now) (a .g) (c .before .before .before .before .before .to3 .given .0 .0) e w b)
 
--- src/walks.rt:224:1
 returns-2 : tie.Need-returns-2
 returns-2 c =
     let a = c .before .before .before .before .before .before .before .before .before .args in
     ap bare (function-is (a .z) (a .t .now) (a .g) (function-block (a .z) (a .t .now) (a .g) (c .before .before .before .before .before .before .before .start-of .ensures .0) (c .before .before .before .before .before .unpack .ensures ∙ ap envOf (c .before .before .before .before .before .before .in-of .ensures)) (c .before .before .before .before .block .ensures) (seen (c .before .before .before .before .block .result) (c .before .to .given .1))))
 
--- src/walks.rt:224:1
 returns-3 : tie.Need-returns-3
 returns-3 c =
     let a = c .before .before .before .before .before .before .before .before .before .args in
     ap bare (function-is (a .z) (a .t .now) (a .g) (function-block (a .z) (a .t .now) (a .g) (c .before .before .before .before .before .before .before .start-of .ensures .0) (c .before .before .before .before .before .unpack .ensures ∙ ap envOf (c .before .before .before .before .before .before .in-of .ensures)) (c .before .before .before .before .block .ensures) (seen (c .before .before .before .before .block .result) (c .before .to2 .given .1))))
 
--- src/walks.rt:224:1
 returns-4 : tie.Need-returns-4
 returns-4 c =
     let a = c .before .before .before .before .before .before .before .before .before .before .before .before .before .args in
+    let p = c .before .before .before .before .before .before .before .before .before .before .before .before .before .pre in
     let e = viewEnv (c .before .before .before .before .before .before .before .before .block .result .env) in
-    let w = within-packed (a .z) e (outOf (a .z) (a .t .now) (a .g)) (c .before .env-within .ensures) (c .before .before .unpack2 .ensures ∙ ap envOf (c .before .before .before .out-of .ensures)) (c .if1 .left) in
+    let into = c .before .before .before .before .before .before .before .before .before .unpack .ensures ∙ ap envOf (c .before .before .before .before .before .before .before .before .before .before .in-of .ensures) in
+    let f = walk-fit (a .z) (a .t .now) (p .0) 16 _ _ _ (c .before .before .before .before .before .before .before .before .block .result) (subst (Fit (a .z)) (sym into) (p .0 .signed (a .g) (p .1) .0)) (c .before .before .before .before .before .before .before .before .block .ensures) in
+    let w = within-packed (a .z) e (outOf (a .z) (a .t .now) (a .g)) (at-shut (Fit (a .z)) (c .before .before .before .before .before .before .before .before .block .result) (c .before .before .before .before .before .to3 .given .1) f) (p .0 .signed (a .g) (p .1) .1) (c .before .env-within .ensures) (c .before .before .unpack2 .ensures ∙ ap envOf (c .before .before .before .out-of .ensures)) (c .if1 .left) in
     let b = function-block (a .z) (a .t .now) (a .g) (c .before .before .before .before .before .before .before .before .before .before .before .start-of .ensures .0) (c .before .before .before .before .before .before .before .before .before .unpack .ensures ∙ ap envOf (c .before .before .before .before .before .before .before .before .before .before .in-of .ensures)) (c .before .before .before .before .before .before .before .before .block .ensures) (seen (c .before .before .before .before .before .before .before .before .block .result) (c .before .before .before .before .before .to3 .given .1)) in
     ap bare (function-out (a .z) (a .t .now) (a .g) (c .before .before .before .before .before .to3 .given .0 .0) e w b)
 

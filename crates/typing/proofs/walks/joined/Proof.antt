@@ -4,7 +4,8 @@ use borrow.Author.Needs.{needs}
 use Rattle.model.specs.Walk.{Next as Onward}
 use Rattle.typing.specs.Walks.{joinWalk, Close}
 use Rattle.typing.specs.Envs.{viewEnv}
-use Rattle.typing.proofs.Turns.{seen, halts}
+use Rattle.model.specs.Whole.{NoThrees}
+use Rattle.typing.proofs.Turns.{seen, halts, at-shut}
 use Rattle.typing.proofs.walks.joined.Statement.{statement}
 use Rattle.typing.proofs.walks.joined.Tie as tie
 use Rattle.typing.proofs.walks.joined.Reads as reads
@@ -12,49 +13,41 @@ use Rattle.typing.proofs.walks.joined.Lts as lts
 use Rattle.typing.proofs.environments.join_envs.Reads as join-envs-reads
 use Rattle.typing.proofs.walks.fault.Reads as fault-reads
 
--- src/walks.rt:111:22
 enum-known-to : tie.Need-enum-known-to
 enum-known-to c = search needs
 
--- src/walks.rt:111:28
 fault-requires : tie.Need-fault-requires
 fault-requires c κs = search needs
 
--- src/walks.rt:112:23
 enum-known-to-2 : tie.Need-enum-known-to-2
 enum-known-to-2 c = search needs
 
--- src/walks.rt:112:32
 fault-requires-2 : tie.Need-fault-requires-2
 fault-requires-2 c κs = search needs
 
--- src/walks.rt:113:22
 enum-known-to-3 : tie.Need-enum-known-to-3
 enum-known-to-3 c = search needs
 
--- src/walks.rt:114:17
 join-envs-requires : tie.Need-join-envs-requires
-join-envs-requires c κs = search needs
+join-envs-requires c κs =
+    let p = c .before .before .before .before .pre in
+    (p .1, at-shut NoThrees (c .before .before .before .before .args .second) (c .before .to3 .given .1) (p .2))
 
--- src/walks.rt:116:34
 add-t11 : tie.Need-add-t11
 add-t11 c =
-    let h = subst Close (c .before .before .to3 .given .1) (c .before .before .before .before .before .pre) in
+    let h = subst Close (c .before .before .to3 .given .1) (c .before .before .before .before .before .pre .0) in
     search needs
 
--- src/walks.rt:104:1
 returns : tie.Need-returns
 returns c =
     let a = c .before .before .before .before .before .args in
     halts (c .fault .result) (c .fault .ensures) ∙ sym (ap (joinWalk (viewEnv (a .env1))) (seen (a .second) (c .before .before .to .given .1)))
 
--- src/walks.rt:104:1
 returns-2 : tie.Need-returns-2
 returns-2 c =
     let a = c .before .before .before .before .before .args in
     halts (c .fault2 .result) (c .fault2 .ensures) ∙ sym (ap (joinWalk (viewEnv (a .env1))) (seen (a .second) (c .before .before .to2 .given .1)))
 
--- src/walks.rt:104:1
 returns-3 : tie.Need-returns-3
 returns-3 c =
     let a = c .before .before .before .before .before .args in

@@ -1,0 +1,22 @@
+use borrow.Author.Tests.{lt-ltb, le-ltb, le-leb, lt-leb, eq-eqb, ne-eqb}
+use native.Mathlib.Omega.{arith}
+use Prim.Native.Nat.{ℕ, _≤_, _<_, max}
+use mathlib.Core.Path.{_≡_, refl, sym, ap, _∙_}
+use Rattle.model.specs.Rules.{settle}
+use Rattle.levels.proofs.settled.Statement.{statement}
+use Rattle.levels.proofs.settled.Tie as tie
+use Rattle.levels.proofs.settled.Reads as reads
+use Rattle.levels.proofs.settled.Lts as lts
+
+returns : tie.Need-returns
+unfolding settle
+returns c =
+    let h = c .if1 .taken in simp le-leb
+
+returns-2 : tie.Need-returns-2
+unfolding settle
+returns-2 c =
+    let h = c .if1 .left in simp lt-leb
+
+pub settled-spec : {M : Type 1} → statement M
+settled-spec = tie.close (tie.spec returns returns-2)

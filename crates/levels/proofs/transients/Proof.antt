@@ -1,0 +1,31 @@
+use mathlib.Core.Path.{refl, sym, ap, _∙_}
+use native.Mathlib.Omega.{arith}
+use Prim.Native.Nat.{ℕ, _≤_, min}
+use mathlib.Core.Path.{_≡_}
+use Rattle.model.specs.Words.{lows}
+use Rattle.levels.proofs.Shifts.{mask-pos, lows-shifted}
+use borrow.Author.Needs.{needs}
+use Rattle.levels.proofs.transients.Statement.{statement}
+use Rattle.levels.proofs.transients.Tie as tie
+use Rattle.levels.proofs.transients.Reads as reads
+use Rattle.levels.proofs.transients.Lts as lts
+
+returns : tie.Need-returns
+unfolding lows
+returns c = let e : min (c .before .args .n) 16 ≡ 16 = omega (arith, c .if1 .taken) in sym (ap lows e)
+
+mul-k : tie.Need-mul-k
+mul-k c = search needs
+
+shl-result : tie.Need-shl-result
+shl-result c = search needs
+
+sub-result : tie.Need-sub-result
+sub-result c = mask-pos (c .before .args .n) (omega (arith, c .if1 .left))
+
+returns-2 : tie.Need-returns-2
+unfolding lows
+returns-2 c = let e : min (c .before .args .n) 16 ≡ c .before .args .n = omega (arith, c .if1 .left) in lows-shifted (c .before .args .n) (omega (arith, c .if1 .left)) ∙ sym (ap lows e)
+
+pub transients-spec : {M : Type 1} → statement M
+transients-spec = tie.close (tie.spec returns mul-k shl-result sub-result returns-2)

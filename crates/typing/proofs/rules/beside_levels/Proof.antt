@@ -1,0 +1,31 @@
+use Prim.Native.Nat.{ℕ, _^_, _<_, _≤_, max}
+use native.Mathlib.Omega.{arith}
+use mathlib.Core.Path.{_≡_, ap, _∙_}
+use Rattle.model.specs.Words.{joinWords}
+use Rattle.typing.proofs.Packed.{beside-public, beside-is}
+use borrow.Author.Needs.{needs}
+use Rattle.typing.proofs.rules.beside_levels.Statement.{statement}
+use Rattle.typing.proofs.rules.beside_levels.Tie as tie
+use Rattle.typing.proofs.rules.beside_levels.Reads as reads
+use Rattle.typing.proofs.rules.beside_levels.Lts as lts
+use Rattle.levels.proofs.join_levels.Reads as join-levels-reads
+use Rattle.levels.proofs.transients.Reads as transients-reads
+
+returns : tie.Need-returns
+returns c = beside-public (c .before .args .arrays) (c .before .args .count) (c .before .args .source) (c .if1 .taken)
+
+transients-requires : tie.Need-transients-requires
+transients-requires c κs = search needs
+
+join-levels-requires : tie.Need-join-levels-requires
+join-levels-requires c κs = search needs
+
+returns-2 : tie.Need-returns-2
+returns-2 c =
+    let a = c .before .before .before .args in
+    let p = c .before .before .before .pre in
+    beside-is (a .arrays) (a .count) (a .source) (omega arith) (p .0) (p .1) (c .before .before .if1 .left) (c .join-levels .ensures ∙ ap (joinWords 16 (a .arrays)) (c .before .transients .ensures))
+
+pub beside-levels-spec : {M : Type 1} → statement M
+beside-levels-spec =
+    tie.close (tie.spec returns transients-requires join-levels-requires returns-2)
