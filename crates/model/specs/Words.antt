@@ -155,7 +155,7 @@ unfolding joinWords
 join-words-lt n a b h l =
     let m = bitOr a b in
     let k : m < 2 ^ (n + n) = or-lt (n + n) a b (omega (arith, bits n)) (omega (arith, bits n)) in
-    rw (bits n) (xor-lt (n + n) m (bitAnd m (bitAnd (m / 2) (lows n))) k (lt-of-le-of-lt (and-le-l m (bitAnd (m / 2) (lows n))) k))
+    rw (bits n) (xor-lt (n + n) m _ k (lt-of-le-of-lt (and-le-l m _) k))
 
 -- shifted by one, a slot's low bit is its high bit
 high-bit : (w i : ℕ) → slot (w / 2) i % 2 ≡ slot w i / 2
