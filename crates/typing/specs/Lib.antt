@@ -3,3 +3,4 @@ pub mod Walks
 pub mod Bounds
 pub mod Check
 pub mod Checked
+pub mod Slots
