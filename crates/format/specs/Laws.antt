@@ -8,8 +8,8 @@ use mathlib.Core.Bool.{Bool, true, false, true≢false}
 use lib.ListN.{length, getD}
 use lib.Dec.{ltb, leb, eqb}
 use borrow.Author.Tests.{ltb-true, ltb-false, leb-false, eqb-true}
-use Rattle.model.specs.Tests.{pick, all, pick-ind}
-use Rattle.model.specs.Records.{lengthOf, length-pos, Fits, Reaches}
+use Rattle.model.specs.Tests.{all, pick-ind}
+use Rattle.model.specs.Records.{lengthOf, Fits, Reaches, Keeps}
 use Rattle.model.specs.declared.Sizes.{Sizes}
 use Rattle.model.specs.declared.Simple.{Simple}
 use Rattle.model.specs.declared.Simple.the-variants.{Const, Op, Select, Load, Store, Init, Update, Protect, LoadFixed, StoreFixed}
@@ -17,7 +17,7 @@ use Rattle.model.specs.declared.Record.{Record}
 use Rattle.model.specs.declared.Record.the-variants.{Do, Call, If, Else, Endif, While, Endwhile, Return}
 use Rattle.format.specs.declared.Decoded.{Decoded}
 use Rattle.format.specs.declared.Decoded.the-variants.{Got, Bad}
-use Rattle.format.specs.Format.{byte, word16, wordsAt, wordsFrom, shaped, Row, rowsOf, byRow, rowAt, decodeAt}
+use Rattle.format.specs.Format.{byte, word16, wordsAt, wordsFrom, Row, rowsOf, byRow, rowAt, decodeAt}
 
 -- every test of a list holds
 abbrev pub Trues : List Bool → Type 0
@@ -75,7 +75,7 @@ words-first z t n a l = words-in z t n 0 a l ∙ ap (wordsAt z t) (zero-add a)
 
 -- the fields are in range, by the table's sizes and its arrays' words
 abbrev Ranged : Sizes → List ℕ → Record → Type 0
-Ranged z t r = Fits (z .registers) (z .arrays) (z .functions) r × Reaches (wordsFrom z t (z .arrays) 0) r
+Ranged z t r = Fits (z .registers) (z .arrays) r × Reaches (wordsFrom z t (z .arrays) 0) r × Keeps (z .registers) (z .arrays) (z .functions) r
 
 -- a row has its kind, and where its tests hold its fields are in range
 abbrev RowFits : Sizes → List ℕ → ℕ → Row → Type 0
@@ -92,39 +92,39 @@ rows-fit z t at =
     let lt : (i k : ℕ) → ltb (byte t (at + i)) k ≡ true → byte t (at + i) < k = λ i k. ltb-true (byte t (at + i)) k in
     let word : (i j : ℕ) → byte t (at + i) < m → ltb (word16 t (at + j)) (wordsAt z t (byte t (at + i))) ≡ true → word16 t (at + j) < getD (wordsFrom z t m 0) (byte t (at + i)) 0 =
     λ i j l h. rw (words-first z t m (byte t (at + i)) l) (ltb-true (word16 t (at + j)) (wordsAt z t (byte t (at + i))) h) in (
-      (λ w. (lt 1 n (w .0), tt), refl, tt),
+      (λ w. (lt 1 n (w .0), tt, tt), refl, tt),
       (
-        (λ w. ((lt 1 n (w .0), lt 2 8 (w .1 .0), lt 3 n (w .1 .1 .0), lt 4 n (w .1 .1 .1 .0)), tt), refl, tt),
+        (λ w. ((lt 1 n (w .0), lt 2 8 (w .1 .0), lt 3 n (w .1 .1 .0), lt 4 n (w .1 .1 .1 .0)), tt, tt), refl, tt),
         (
-          (λ w. ((lt 1 n (w .0), lt 2 n (w .1 .0), lt 3 n (w .1 .1 .0), lt 4 n (w .1 .1 .1 .0)), tt), refl, tt),
+          (λ w. ((lt 1 n (w .0), lt 2 n (w .1 .0), lt 3 n (w .1 .1 .0), lt 4 n (w .1 .1 .1 .0)), tt, tt), refl, tt),
           (
-            (λ w. ((lt 1 n (w .0), lt 2 m (w .1 .0), lt 3 n (w .1 .1 .0)), tt), refl, tt),
+            (λ w. ((lt 1 n (w .0), lt 2 m (w .1 .0), lt 3 n (w .1 .1 .0)), tt, tt), refl, tt),
             (
-              (λ w. ((lt 1 m (w .0), lt 2 n (w .1 .0), lt 3 n (w .1 .1 .0)), tt), refl, tt),
+              (λ w. ((lt 1 m (w .0), lt 2 n (w .1 .0), lt 3 n (w .1 .1 .0)), tt, tt), refl, tt),
               (
-                (λ w. (tt, tt), refl, tt),
+                (λ w. (tt, tt, tt), refl, tt),
                 (
-                  (λ w. (lt 1 n (w .0), tt), refl, tt),
+                  (λ w. (lt 1 n (w .0), tt, tt), refl, tt),
                   (
-                    (λ w. ((lt 1 n (w .0), lt 2 n (w .1 .0)), tt), refl, tt),
+                    (λ w. ((lt 1 n (w .0), lt 2 n (w .1 .0)), tt, tt), refl, tt),
                     (
-                      (λ w. (lt 1 (z .functions) (w .0), tt), refl, tt),
+                      (λ w. (tt, tt, lt 1 (z .functions) (w .0)), refl, tt),
                       (
-                        (λ w. ((lt 1 n (w .0), lt 2 m (w .1 .0)), word 2 3 (lt 2 m (w .1 .0)) (w .1 .1 .0)), refl, tt),
+                        (λ w. ((lt 1 n (w .0), lt 2 m (w .1 .0)), word 2 3 (lt 2 m (w .1 .0)) (w .1 .1 .0), tt), refl, tt),
                         (
-                          (λ w. ((lt 1 m (w .0), lt 4 n (w .1 .1 .0)), word 1 2 (lt 1 m (w .0)) (w .1 .0)), refl, tt),
+                          (λ w. ((lt 1 m (w .0), lt 4 n (w .1 .1 .0)), word 1 2 (lt 1 m (w .0)) (w .1 .0), tt), refl, tt),
                           (
-                            (λ w. (lt 1 n (w .0), tt), refl, refl),
+                            (λ w. (lt 1 n (w .0), tt, tt), refl, refl),
                             (
-                              (λ w. (tt, tt), refl, refl),
+                              (λ w. (tt, tt, tt), refl, refl),
                               (
-                                (λ w. (tt, tt), refl, tt),
+                                (λ w. (tt, tt, tt), refl, tt),
                                 (
-                                  (λ w. ((lt 1 n (w .0), w .1 .0), tt), refl, refl),
+                                  (λ w. (lt 1 n (w .0), tt, w .1 .0), refl, refl),
                                   (
-                                    (λ w. (tt, tt), refl, refl),
+                                    (λ w. (tt, tt, tt), refl, refl),
                                     (
-                                      (λ w. (tt, tt), refl, tt),
+                                      (λ w. (tt, tt, tt), refl, tt),
                                       tt,
                                     ),
                                   ),
@@ -147,8 +147,9 @@ rows-fit z t at =
 -- what is known of a decoded record: its kind, that it is in range and whole in the table, and where the next one is due
 pub record Good (z : Sizes) (t : List ℕ) (at : ℕ) (r : Record) (n : ℕ) : Type 0 where
   pub kind : kindOf r ≡ byte t at
-  pub fits : Fits (z .registers) (z .arrays) (z .functions) r
+  pub fits : Fits (z .registers) (z .arrays) r
   pub reaches : Reaches (wordsFrom z t (z .arrays) 0) r
+  pub keeps : Keeps (z .registers) (z .arrays) (z .functions) r
   pub names : Names t at r
   pub next : n ≡ at + lengthOf r
   pub whole : n ≤ length t
@@ -164,7 +165,7 @@ rows-sound z t at k (r ∷ rs) e l f =
     (λ q. pick-ind (Sound z t at) (ltb (length t - at) (lengthOf (r .2))) (λ _. tt)
     (λ c. let c2 = ltb-false (length t - at) (lengthOf (r .2)) c in
     pick-ind (Sound z t at) (all (r .1))
-    (λ h. record { kind = f .0 .1 ∙ sym (eqb-true k (r .0) q) ∙ e; fits = f .0 .0 (trues (r .1) h) .0; reaches = f .0 .0 (trues (r .1) h) .1; names = f .0 .2; next = refl; whole = omega arith })
+    (λ h. record { kind = f .0 .1 ∙ sym (eqb-true k (r .0) q) ∙ e; fits = f .0 .0 (trues (r .1) h) .0; reaches = f .0 .0 (trues (r .1) h) .1; keeps = f .0 .0 (trues (r .1) h) .2; names = f .0 .2; next = refl; whole = omega arith })
     (λ _. tt)))
     (λ _. rows-sound z t at k rs e l (f .1))
 

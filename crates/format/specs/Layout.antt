@@ -1,13 +1,12 @@
 -- Document 01, "Table layout": the whole table. Sizes, the arrays, the signatures, then the functions in order, touching.
 use Prim.Native.Nat.{ℕ, zero, suc, _+_, _-_, _*_}
-use mathlib.Core.Path.{_≡_, refl, subst, sym}
+use mathlib.Core.Path.{_≡_, refl}
 use mathlib.Core.List.{List}
-use mathlib.Core.Bool.{Bool, true, false}
-use lib.ListN.{length, getD}
+use lib.ListN.{length}
 use lib.Dec.{eqb}
 use Rattle.model.specs.Tests.{pick}
 use Rattle.model.specs.Packing.{envOf}
-use Rattle.model.specs.Records.{Fits, Reaches}
+use Rattle.model.specs.Records.{Fits, Reaches, Keeps}
 use Rattle.model.specs.Sites.{scan, homeOf}
 use Rattle.model.specs.Table.{Table}
 use Rattle.model.specs.declared.Sizes.{Sizes}
@@ -53,11 +52,11 @@ unfolding wordsFrom
 words-count z t zero a = refl
 words-count z t (suc n) a = rw (words-count z t n (suc a))
 
-pub record-fits : (z : Sizes) (t : List ℕ) (p : ℕ) → Fits (z .registers) (z .arrays) (z .functions) (recordOf z t p)
+pub record-fits : (z : Sizes) (t : List ℕ) (p : ℕ) → Fits (z .registers) (z .arrays) (recordOf z t p)
 unfolding recordOf
 record-fits z t p = go (decodeAt z t p) refl
   where
-    go : (d : Decoded) → decodeAt z t p ≡ d → Fits (z .registers) (z .arrays) (z .functions) (recordFrom d)
+    go : (d : Decoded) → decodeAt z t p ≡ d → Fits (z .registers) (z .arrays) (recordFrom d)
     go (Got r n) e = good z t p e .fits
     go (Bad n q) e = tt
 
@@ -67,6 +66,14 @@ record-reaches z t p = go (decodeAt z t p) refl
   where
     go : (d : Decoded) → decodeAt z t p ≡ d → Reaches (wordsFrom z t (z .arrays) 0) (recordFrom d)
     go (Got r n) e = good z t p e .reaches
+    go (Bad n q) e = tt
+
+pub record-keeps : (z : Sizes) (t : List ℕ) (p : ℕ) → Keeps (z .registers) (z .arrays) (z .functions) (recordOf z t p)
+unfolding recordOf
+record-keeps z t p = go (decodeAt z t p) refl
+  where
+    go : (d : Decoded) → decodeAt z t p ≡ d → Keeps (z .registers) (z .arrays) (z .functions) (recordFrom d)
+    go (Got r n) e = good z t p e .keeps
     go (Bad n q) e = tt
 
 -- THE TABLE that bytes stand for, by the sizes z; and by their own sizes
@@ -80,6 +87,7 @@ tableWith z t = record {
   fits = record-fits z t;
   reaches = record-reaches z t;
   functions = z .functions;
+  keeps = record-keeps z t;
   start = startOf z t;
   ret = returnOf z t;
   enter = λ f. envOf (inOf z t f);

@@ -1,12 +1,11 @@
 -- A shift by 2 * i goes past i slots.
-use Prim.Native.Nat.{ℕ, _+_, _-_, _*_, _/_, _%_, _^_, _<_, _≤_, min}
+use Prim.Native.Nat.{ℕ, _+_, _-_, _*_, _/_, _%_, _^_, _<_, _≤_}
 use native.Mathlib.Omega.{arith}
-use native.Mathlib.Nat.{mod-eq-of-lt}
-use mathlib.Core.Path.{_≡_, refl, sym, ap, _∙_}
+use mathlib.Core.Path.{_≡_, sym, ap, _∙_}
 use lib.Bits.{bitAnd, bitXor, xor-lt}
 use lib.Pow.{pow-pos, shl-exact}
 use Rattle.model.specs.Packing.{slot}
-use Rattle.model.specs.Words.{lows, putWord, slot-is, slot-past, slot-small, bits, mask-lows}
+use Rattle.model.specs.Words.{lows, putWord, slot-is, slot-small, bits, mask-lows}
 
 slots : (i : ℕ) → 2 ^ (2 * i) ≡ 4 ^ i
 slots i = let e : 2 * i ≡ i + i = omega arith in ap (λ (k : ℕ). 2 ^ k) e ∙ sym (bits i)

@@ -104,7 +104,7 @@ module _ (t : Table) where
   abbrev In : Env → Env → Type 0
   In = Within (t .registers) (t .arrays)
 
-  pub needs-of-down : (i : Record) (E F : Env) → Fits (t .registers) (t .arrays) (t .functions) i → In E F → NeedsOf t i F → NeedsOf t i E
+  pub needs-of-down : (i : Record) (E F : Env) → Fits (t .registers) (t .arrays) i → In E F → NeedsOf t i F → NeedsOf t i E
   needs-of-down (Do s) E F f w h = needs-down (t .registers) (t .arrays) E F w s f h
   needs-of-down (Call g m) E F f w h = within-trans (t .registers) (t .arrays) E F (t .enter g) w h
   needs-of-down (If r e) E F f w h = h
@@ -114,7 +114,7 @@ module _ (t : Table) where
   needs-of-down (Endwhile e) E F f w h = h
   needs-of-down Return E F f w h = h
 
-  pub after-of-mono : (i : Record) (E F : Env) → Fits (t .registers) (t .arrays) (t .functions) i → In E F → In (afterOf t i E) (afterOf t i F)
+  pub after-of-mono : (i : Record) (E F : Env) → Fits (t .registers) (t .arrays) i → In E F → In (afterOf t i E) (afterOf t i F)
   after-of-mono (Do s) E F f w = after-mono (t .registers) (t .arrays) E F w s f
   after-of-mono (Call g m) E F f w = within-refl (t .registers) (t .arrays) _
   after-of-mono (If r e) E F f w = w
@@ -124,8 +124,8 @@ module _ (t : Table) where
   after-of-mono (Endwhile e) E F f w = w
   after-of-mono Return E F f w = w
 
-  fits-at : (p : ℕ) (i : Record) → t .rec p ≡ i → Fits (t .registers) (t .arrays) (t .functions) i
-  fits-at p i e = subst (Fits (t .registers) (t .arrays) (t .functions)) e (t .fits p)
+  fits-at : (p : ℕ) (i : Record) → t .rec p ≡ i → Fits (t .registers) (t .arrays) i
+  fits-at p i e = subst (Fits (t .registers) (t .arrays)) e (t .fits p)
 
   -- what types from F types from any E within it, and ends within where F ends
   pub types-mono : {g p q : ℕ} {F F′ : Env} (E : Env) → In E F → Types t (typing t) g p F q F′ → (E′ : Env) × Types t (typing t) g p E q E′ × In E′ F′

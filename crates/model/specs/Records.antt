@@ -92,16 +92,26 @@ SimpleFits n m (Protect d s) = (d < n) × (s < n)
 SimpleFits n m (LoadFixed d a i) = (d < n) × (a < m)
 SimpleFits n m (StoreFixed a i s) = (a < m) × (s < n)
 
--- .. and of k functions; a loop environment has levels in the table's slots and nothing beside them
-abbrev pub Fits : ℕ → ℕ → ℕ → Record → Type 0
-Fits n m k (Do s) = SimpleFits n m s
-Fits n m k (Call f b) = f < k
-Fits n m k (If r e) = r < n
-Fits n m k (Else e) = Unit {0}
-Fits n m k Endif = Unit {0}
-Fits n m k (While r e L) = (r < n) × (packedIn n m L ≡ true)
-Fits n m k (Endwhile w) = Unit {0}
-Fits n m k Return = Unit {0}
+abbrev pub Fits : ℕ → ℕ → Record → Type 0
+Fits n m (Do s) = SimpleFits n m s
+Fits n m (Call f k) = Unit {0}
+Fits n m (If r e) = r < n
+Fits n m (Else e) = Unit {0}
+Fits n m Endif = Unit {0}
+Fits n m (While r e L) = r < n
+Fits n m (Endwhile w) = Unit {0}
+Fits n m Return = Unit {0}
+
+-- a CALL is of one of k functions, and a loop environment has levels in the table's slots and nothing beside them (fault 4 too)
+abbrev pub Keeps : ℕ → ℕ → ℕ → Record → Type 0
+Keeps n m k (Do s) = Unit {0}
+Keeps n m k (Call f b) = f < k
+Keeps n m k (If r e) = Unit {0}
+Keeps n m k (Else e) = Unit {0}
+Keeps n m k Endif = Unit {0}
+Keeps n m k (While r e L) = packedIn n m L ≡ true
+Keeps n m k (Endwhile w) = Unit {0}
+Keeps n m k Return = Unit {0}
 
 -- an index that stands in the record is below its array's words (fault 4 too)
 abbrev pub SimpleReaches : List ℕ → Simple → Type 0

@@ -6,7 +6,7 @@ use mathlib.Core.List.{List}
 use mathlib.Core.Option.{Option}
 use lib.ListN.{length}
 use Rattle.model.specs.Levels.{Env}
-use Rattle.model.specs.Records.{Fits, Reaches}
+use Rattle.model.specs.Records.{Fits, Reaches, Keeps}
 use Rattle.model.specs.declared.Record.{Record}
 
 pub record Table : Type 0 where
@@ -15,9 +15,10 @@ pub record Table : Type 0 where
   pub arrays : ℕ
   pub words : List ℕ  -- the words of each array
   pub counted : length words ≡ arrays
-  pub functions : ℕ
-  pub fits : (p : ℕ) → Fits registers arrays functions (rec p)
+  pub fits : (p : ℕ) → Fits registers arrays (rec p)
   pub reaches : (p : ℕ) → Reaches words (rec p)
+  pub functions : ℕ
+  pub keeps : (p : ℕ) → Keeps registers arrays functions (rec p)
   pub start : ℕ → ℕ  -- of a function: its first place
   pub ret : ℕ → ℕ  -- of a function: its RETURN
   pub enter : ℕ → Env  -- of a function: its in-environment

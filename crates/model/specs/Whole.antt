@@ -1,6 +1,6 @@
 -- Order 2: what the packed forms ask of an environment, for any slot count: no slot is 3, and unused slots are 0. The rules
 -- keep it, so that it holds of every environment that the walk of a table meets, once it holds of the signatures.
-use Prim.Native.Nat.{ℕ, zero, suc, _+_, _<_, _≤_, max}
+use Prim.Native.Nat.{ℕ, zero, suc, _+_, _<_, max}
 use native.Mathlib.Omega.{arith}
 use mathlib.Core.Path.{_≡_, refl, sym}
 use mathlib.Core.Bool.{Bool, true, false, true≢false}
@@ -9,11 +9,11 @@ use lib.Dec.{leb, ltb}
 use borrow.Author.Tests.{le-ltb}
 use Rattle.model.specs.Tests.{pick, all, put, same, pick-ind}
 use Rattle.model.specs.Levels.{Env, join}
-use Rattle.model.specs.Packing.{envOf, levelsIn, packedIn}
-use Rattle.model.specs.Records.{SimpleFits, Fits}
+use Rattle.model.specs.Packing.{slot, envOf, levelsIn, packedIn}
+use Rattle.model.specs.Records.{SimpleFits, Fits, Keeps}
 use Rattle.model.specs.Table.{Table}
-use Rattle.model.specs.Rules.{settle, spilled, beside, written, raised, guarded, after, afterOf, typing}
-use Rattle.model.specs.Words.{NoThree, Unused, levels-in}
+use Rattle.model.specs.Rules.{settle, beside, written, raised, guarded, after, afterOf, typing}
+use Rattle.model.specs.Words.{NoThree, Levelled, levels-in}
 use Rattle.model.specs.Decide.{typingTests, meetsOf}
 use Rattle.model.specs.Walk.{Walked, Next, Shut, Fault, onNext, onShut, ifWith, whileWith, instrWith, blockWith, instrAt}
 use Rattle.model.specs.declared.Packed.{Packed}
@@ -22,30 +22,25 @@ use Rattle.model.specs.declared.Simple.the-variants.{Const, Op, Select, 
 use Rattle.model.specs.declared.Record.{Record}
 use Rattle.model.specs.declared.Record.the-variants.{Do, Call, If, Else, Endif, While, Endwhile, Return}
 
--- n slots: no level is 3, and from n on each is 0
-pub record Levelled (n : ℕ) (f : ℕ → ℕ) : Type 0 where
-  pub known : (i : ℕ) → f i < 3
-  pub unused : (i : ℕ) → n ≤ i → f i ≡ 0
-
--- .. of n registers and of m arrays
+-- over n registers and m arrays
 pub record Whole (n m : ℕ) (E : Env) : Type 0 where
   pub regs : Levelled n (E .regs)
   pub arrays : Levelled m (E .arrays)
 
--- no slot is 3, whatever is used
+-- no slot is 3, used or not
 abbrev pub NoThrees : Env → Type 0
-NoThrees E = ((i : ℕ) → E .regs i < 3) × ((a : ℕ) → E .arrays a < 3)
+NoThrees E = NoThree (E .regs) × NoThree (E .arrays)
 
 pub no-threes : (n m : ℕ) (E : Env) → Whole n m E → NoThrees E
 no-threes n m E w = (w .regs .known, w .arrays .known)
 
--- the seven bytes that a reader lets pass
+-- the seven bytes that the reader lets pass
 pub packed-whole : (n m : ℕ) (e : Packed) → packedIn n m e ≡ true → Whole n m (envOf e)
 unfolding packedIn
 packed-whole n m e h = go (ltb (e .status) 2) (levelsIn n (e .registers)) (levelsIn m (e .arrays)) (levels-in n (e .registers) .0) (levels-in m (e .arrays) .0) h
   where
-    go : (a b c : Bool) → (b ≡ true → NoThree (e .registers) × Unused n (e .registers)) → (c ≡ true → NoThree (e .arrays) × Unused m (e .arrays)) → all (a ∷ b ∷ c ∷ []) ≡ true → Whole n m (envOf e)
-    go true true true f g h = record { regs = record { known = f refl .0; unused = f refl .1 }; arrays = record { known = g refl .0; unused = g refl .1 } }
+    go : (a b c : Bool) → (b ≡ true → Levelled n (slot (e .registers))) → (c ≡ true → Levelled m (slot (e .arrays))) → all (a ∷ b ∷ c ∷ []) ≡ true → Whole n m (envOf e)
+    go true true true f g h = record { regs = f refl; arrays = g refl }
     go true true false f g h = absurd (true≢false (sym h))
     go true false c f g h = absurd (true≢false (sym h))
     go false b c f g h = absurd (true≢false (sym h))
@@ -62,7 +57,7 @@ join-levelled n f g w v = record {
   unused = λ i k. omega (arith, w .unused i k, v .unused i k);
 }
 
-pub settle-known : (l : ℕ) → l < 3 → settle l < 3
+settle-known : (l : ℕ) → l < 3 → settle l < 3
 unfolding settle
 settle-known l h = pick-ind (λ x. x < 3) (leb l 1) (λ _. omega arith) (λ _. h)
 
@@ -123,15 +118,15 @@ module _ (t : Table) (leaves : (f : ℕ) → f < t .functions → Whole (t .regi
   abbrev W : Env → Type 0
   W = Whole (t .registers) (t .arrays)
 
-  after-of-whole : (i : Record) (E : Env) → Fits (t .registers) (t .arrays) (t .functions) i → W E → W (afterOf t i E)
-  after-of-whole (Do s) E f w = after-whole (t .registers) (t .arrays) E w s f
-  after-of-whole (Call g k) E f w = let o = leaves g f in record { regs = o .regs; arrays = o .arrays }
-  after-of-whole (If r e) E f w = w
-  after-of-whole (Else n) E f w = w
-  after-of-whole Endif E f w = w
-  after-of-whole (While r e L) E f w = w
-  after-of-whole (Endwhile e) E f w = w
-  after-of-whole Return E f w = w
+  after-of-whole : (i : Record) (E : Env) → Fits (t .registers) (t .arrays) i → Keeps (t .registers) (t .arrays) (t .functions) i → W E → W (afterOf t i E)
+  after-of-whole (Do s) E f k w = after-whole (t .registers) (t .arrays) E w s f
+  after-of-whole (Call g b) E f k w = let o = leaves g k in record { regs = o .regs; arrays = o .arrays }
+  after-of-whole (If r e) E f k w = w
+  after-of-whole (Else n) E f k w = w
+  after-of-whole Endif E f k w = w
+  after-of-whole (While r e L) E f k w = w
+  after-of-whole (Endwhile e) E f k w = w
+  after-of-whole Return E f k w = w
 
   abbrev Kept : Walked Env → Type 0
   Kept = Where W
@@ -159,15 +154,15 @@ module _ (t : Table) (leaves : (f : ℕ) → f < t .functions → Whole (t .regi
         (λ _. tt))
         (λ _. tt)
 
-    instr-kept : (i : Record) (p : ℕ) (E : Env) → Fits (t .registers) (t .arrays) (t .functions) i → W E → Kept (instrWith t (typing t) (typingTests t) B i p E)
-    instr-kept (Do s) p E f w = pick-ind Kept (meetsOf t (Do s) E) (λ _. after-of-whole (Do s) E f w) (λ _. tt)
-    instr-kept (Call g k) p E f w = pick-ind Kept (meetsOf t (Call g k) E) (λ _. after-of-whole (Call g k) E f w) (λ _. tt)
-    instr-kept (If r e) p E f w = if-kept p r E w
-    instr-kept (Else n) p E f w = w
-    instr-kept Endif p E f w = w
-    instr-kept (While r e L) p E f w = while-kept p r (envOf L) E (packed-whole (t .registers) (t .arrays) L (f .1))
-    instr-kept (Endwhile e) p E f w = w
-    instr-kept Return p E f w = w
+    instr-kept : (i : Record) (p : ℕ) (E : Env) → Fits (t .registers) (t .arrays) i → Keeps (t .registers) (t .arrays) (t .functions) i → W E → Kept (instrWith t (typing t) (typingTests t) B i p E)
+    instr-kept (Do s) p E f k w = pick-ind Kept (meetsOf t (Do s) E) (λ _. after-of-whole (Do s) E f k w) (λ _. tt)
+    instr-kept (Call g b) p E f k w = pick-ind Kept (meetsOf t (Call g b) E) (λ _. after-of-whole (Call g b) E f k w) (λ _. tt)
+    instr-kept (If r e) p E f k w = if-kept p r E w
+    instr-kept (Else n) p E f k w = w
+    instr-kept Endif p E f k w = w
+    instr-kept (While r e L) p E f k w = while-kept p r (envOf L) E (packed-whole (t .registers) (t .arrays) L k)
+    instr-kept (Endwhile e) p E f k w = w
+    instr-kept Return p E f k w = w
 
   block-kept : (f : ℕ → Env → Walked Env) → ((p : ℕ) (E : Env) → W E → Kept (f p E)) → (k p : ℕ) (E : Env) → W E → Kept (blockWith t (typing t) (typingTests t) f k p E)
   unfolding blockWith
@@ -182,9 +177,9 @@ module _ (t : Table) (leaves : (f : ℕ) → f < t .functions → Whole (t .regi
   -- a record's walk, and a block's, from a whole environment
   pub record-whole : (d size p : ℕ) (E : Env) → Whole (t .registers) (t .arrays) E → Where (Whole (t .registers) (t .arrays)) (instrAt t (typing t) (typingTests t) d size p E)
   unfolding instrAt
-  record-whole zero size p E w = instr-kept (λ q F. Fault 6 p) (λ q F v. tt) (t .rec p) p E (t .fits p) w
+  record-whole zero size p E w = instr-kept (λ q F. Fault 6 p) (λ q F v. tt) (t .rec p) p E (t .fits p) (t .keeps p) w
   record-whole (suc d) size p E w = instr-kept (blockWith t (typing t) (typingTests t) (instrAt t (typing t) (typingTests t) d size) size)
-      (block-kept (instrAt t (typing t) (typingTests t) d size) (record-whole d size) size) (t .rec p) p E (t .fits p) w
+      (block-kept (instrAt t (typing t) (typingTests t) d size) (record-whole d size) size) (t .rec p) p E (t .fits p) (t .keeps p) w
 
   pub block-whole : (d size k p : ℕ) (E : Env) → Whole (t .registers) (t .arrays) E → Where (Whole (t .registers) (t .arrays)) (blockWith t (typing t) (typingTests t) (instrAt t (typing t) (typingTests t) d size) k p E)
   block-whole d size k p E w = block-kept (instrAt t (typing t) (typingTests t) d size) (record-whole d size) k p E w

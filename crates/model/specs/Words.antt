@@ -1,6 +1,6 @@
--- Order 2: packed words. A word of n slots holds two bits a slot, slot 0 lowest (Packing). What levels are, within and the
--- join stand in Levels; here are the forms that work on a whole word at once, and the laws that say what they mean. The laws
--- ask two things of a word: no slot is 3, and the slots that a table does not use are 0. They hold for any width n.
+-- Order 2: packed words. A word of n slots, below 4 ^ n, holds two bits a slot, slot 0 lowest (Packing). What levels are, within
+-- and the join stand in Levels; here are the forms that work on a whole word at once, and the laws that say what they mean. The
+-- laws ask two things of a word: no slot is 3, and the slots that a table does not use are 0. They hold for any width n.
 use Prim.Native.Nat.{ℕ, zero, suc, _+_, _-_, _*_, _/_, _%_, _^_, _<_, _≤_, max}
 use native.Mathlib.Omega.{arith}
 use native.Mathlib.Nat.{div-one, div-div-eq-div-mul, pow-suc, pow-succ', lt-of-le-of-lt}
@@ -16,13 +16,14 @@ use Rattle.model.specs.Levels.{levelsWithin}
 use Rattle.model.specs.Packing.{slot, levelsIn}
 use Rattle.model.specs.Rules.{settle}
 
--- no slot is 3
-abbrev pub NoThree : ℕ → Type 0
-NoThree w = (i : ℕ) → slot w i < 3
+-- no level is 3
+abbrev pub NoThree : (ℕ → ℕ) → Type 0
+NoThree f = (i : ℕ) → f i < 3
 
--- the slots from n on are 0
-abbrev pub Unused : ℕ → ℕ → Type 0
-Unused n w = (i : ℕ) → n ≤ i → slot w i ≡ 0
+-- .. and the slots from n on are 0
+pub record Levelled (n : ℕ) (f : ℕ → ℕ) : Type 0 where
+  pub known : NoThree f
+  pub unused : (i : ℕ) → n ≤ i → f i ≡ 0
 
 -- the low bit of each of n slots
 unfoldable pub lows : ℕ → ℕ
@@ -145,7 +146,7 @@ mask-lows n m l =
     ap (λ (x : ℕ). bitAnd (lows n) (x - 1)) (bits m) ∙ and-mask (lows n) (m + m) ∙ ap (λ (x : ℕ). lows n % x) (sym (bits m))
     ∙ ap (λ (x : ℕ). x % 4 ^ m) (ap lows e ∙ lows-add (n - m) m) ∙ digits-mod (lows (n - m)) (lows-lt m)
 
-pub lows-levels : (n : ℕ) → NoThree (lows n)
+pub lows-levels : (n : ℕ) → NoThree (slot (lows n))
 lows-levels n i = rw (slot-lows n i) (pick-ind (λ (x : ℕ). x < 3) (ltb i n) (λ _. omega arith) (λ _. omega arith))
 
 -- ---- join
@@ -175,7 +176,7 @@ join-slot = three (λ x. (y : ℕ) → y < 3 → joinSlot x y ≡ max x y)
     (three (λ y. joinSlot 1 y ≡ max 1 y) refl refl refl)
     (three (λ y. joinSlot 2 y ≡ max 2 y) refl refl refl)
 
-pub join-words : (n a b : ℕ) → a < 4 ^ n → b < 4 ^ n → NoThree a → NoThree b → (i : ℕ) → slot (joinWords n a b) i ≡ max (slot a i) (slot b i)
+pub join-words : (n a b : ℕ) → a < 4 ^ n → b < 4 ^ n → NoThree (slot a) → NoThree (slot b) → (i : ℕ) → slot (joinWords n a b) i ≡ max (slot a i) (slot b i)
 unfolding joinWords
 join-words n a b h l p q i = slots ∙ go (ltb i n) refl
   where
@@ -205,12 +206,12 @@ agree true c f g = sym (f refl)
 agree false true f g = g refl
 agree false false f g = refl
 
-pub within-words : (k n a b : ℕ) → a < 4 ^ k → b < 4 ^ k → NoThree a → NoThree b → Unused n a → Unused n b → withinWords k a b ≡ levelsWithin n (slot a) (slot b)
+pub within-words : (k n a b : ℕ) → a < 4 ^ k → b < 4 ^ k → Levelled n (slot a) → Levelled n (slot b) → withinWords k a b ≡ levelsWithin n (slot a) (slot b)
 unfolding withinWords
-within-words k n a b h l p q u v = agree (withinWords k a b) (levelsWithin n (slot a) (slot b)) fwd back
+within-words k n a b h l u v = agree (withinWords k a b) (levelsWithin n (slot a) (slot b)) fwd back
   where
     joined : (i : ℕ) → slot (joinWords k a b) i ≡ max (slot a i) (slot b i)
-    joined = join-words k a b h l p q
+    joined = join-words k a b h l (u .known) (v .known)
 
     fwd : withinWords k a b ≡ true → levelsWithin n (slot a) (slot b) ≡ true
     fwd e = all-below n (λ i. leb (slot a i) (slot b i)) (λ i _. le-leb (slot a i) (slot b i) (omega (arith, joined i, ap (λ (w : ℕ). slot w i) (eqb-true (joinWords k a b) b e))))
@@ -220,11 +221,11 @@ within-words k n a b h l p q u v = agree (withinWords k a b) (levelsWithin n (sl
       where
         at : (i : ℕ) → Dec (i < n) → max (slot a i) (slot b i) ≡ slot b i
         at i (yes j) = omega (arith, leb-true (slot a i) (slot b i) (below-all n (λ j. leb (slot a j) (slot b j)) e i j))
-        at i (no j) = omega (arith, u i (omega arith), v i (omega arith))
+        at i (no j) = omega (arith, u .unused i (omega arith), v .unused i (omega arith))
 
 -- ---- settling
 
-pub settle-word : (n a : ℕ) → a < 4 ^ n → NoThree a → (i : ℕ) → slot (settleWord n a) i ≡ settle (slot a i)
+pub settle-word : (n a : ℕ) → a < 4 ^ n → NoThree (slot a) → (i : ℕ) → slot (settleWord n a) i ≡ settle (slot a i)
 unfolding settleWord settle
 settle-word n a h p i = slot-and a (lows n * 2) i ∙ ap (bitAnd (slot a i)) (slot-each 2 (omega arith) n i) ∙ go (ltb i n) refl
   where
@@ -266,20 +267,23 @@ room : (w : ℕ) → w < 4 ^ w
 room zero = omega arith
 room (suc w) = omega (arith, room w)
 
-pub levels-in : (n w : ℕ) → Decides (NoThree w × Unused n w) (levelsIn n w)
+pub levels-in : (n w : ℕ) → Decides (Levelled n (slot w)) (levelsIn n w)
 unfolding slot levelsIn
 levels-in zero w = (
-  λ e. let z = eqb-true w 0 e in (λ i. rw (z, slot-zero i) (omega arith), λ i _. rw z (slot-zero i)),
-  λ h. eq-eqb w 0 (word-ext w w 0 (room w) (omega (arith, room w)) (λ i. h .1 i (omega arith) ∙ sym (slot-zero i))),
+  λ e. let z = eqb-true w 0 e in record { known = λ i. rw (z, slot-zero i) (omega arith); unused = λ i _. rw z (slot-zero i) },
+  λ h. eq-eqb w 0 (word-ext w w 0 (room w) (omega (arith, room w)) (λ i. h .unused i (omega arith) ∙ sym (slot-zero i))),
 )
-levels-in (suc n) w = same (w % 4) 3 (λ b. Decides (NoThree w × Unused (suc n) w) (pick b false (levelsIn n (w / 4))))
-    (λ e. (λ f. absurd (true≢false (sym f)), λ h. absurd (omega (arith, h .0 0))))
-    (λ m. (λ e. let r = levels-in n (w / 4) .0 e in (levels m (r .0), unused (r .1)), λ h. levels-in n (w / 4) .1 (λ i. h .0 (suc i), λ i l. h .1 (suc i) (omega arith))))
+levels-in (suc n) w = same (w % 4) 3 (λ b. Decides (Levelled (suc n) (slot w)) (pick b false (levelsIn n (w / 4))))
+    (λ e. (λ f. absurd (true≢false (sym f)), λ h. absurd (omega (arith, h .known 0))))
+    (λ m. (λ e. up m (levels-in n (w / 4) .0 e), λ h. levels-in n (w / 4) .1 (record { known = λ i. h .known (suc i); unused = λ i l. h .unused (suc i) (omega arith) })))
   where
-    levels : (w % 4 ≡ 3 → ⊥) → NoThree (w / 4) → NoThree w
-    levels m r zero = omega (arith, m)
-    levels m r (suc i) = r i
+    known : (w % 4 ≡ 3 → ⊥) → NoThree (slot (w / 4)) → NoThree (slot w)
+    known m r zero = omega (arith, m)
+    known m r (suc i) = r i
 
-    unused : Unused n (w / 4) → Unused (suc n) w
+    unused : ((i : ℕ) → n ≤ i → slot (w / 4) i ≡ 0) → (i : ℕ) → suc n ≤ i → slot w i ≡ 0
     unused r zero l = absurd (omega arith)
     unused r (suc i) l = r i (omega arith)
+
+    up : (w % 4 ≡ 3 → ⊥) → Levelled n (slot (w / 4)) → Levelled (suc n) (slot w)
+    up m r = record { known = known m (r .known); unused = unused (r .unused) }

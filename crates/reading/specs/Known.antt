@@ -7,27 +7,26 @@ use mathlib.Core.Bool.{Bool, true, false, true≢false}
 use mathlib.Core.Option.{some}
 use lib.ListN.{length}
 use lib.Dec.{ltb, leb, eqb}
-use borrow.Author.Tests.{leb-true, leb-false, ltb-true, eqb-true, eq-eqb, le-leb}
-use Rattle.model.specs.Tests.{pick, all, pick-ind}
-use Rattle.model.specs.Packing.{packedIn, statusOf}
-use Rattle.model.specs.Sites.{scan, homeOf}
+use borrow.Author.Tests.{eq-eqb, le-leb}
+use Rattle.model.specs.Tests.{all, pick-ind}
+use Rattle.model.specs.Packing.{packedIn}
+use Rattle.model.specs.Sites.{scan}
 use Rattle.model.specs.Scans.{scan-called, ret-alone, home-own}
-use Rattle.model.specs.Table.{Table, entry}
+use Rattle.model.specs.Table.{entry}
 use Rattle.model.specs.Blocks.{Every}
 use Rattle.model.specs.Rules.{reading}
-use Rattle.model.specs.Code.{Called, Reads as Known}
+use Rattle.model.specs.Code.{Reads as Known}
 use Rattle.model.specs.declared.Sizes.{Sizes}
-use Rattle.model.specs.declared.Status.the-variants.{Unknown}
-use Rattle.format.specs.Format.{byte, word16, packedAt, arrayPlace}
+use Rattle.format.specs.Format.{byte, word16, packedAt}
 use Rattle.format.specs.Head.{then, sizesAt, arrayAt, signatureAt, arraysAt, signaturesAt}
 use Rattle.format.specs.Laws.{trues}
-use Rattle.format.specs.Layout.{sizesOf, signaturePlace, inOf, tableOf}
+use Rattle.format.specs.Layout.{sizesOf, signaturePlace, tableOf}
 use Rattle.format.specs.declared.To.{To}
 use Rattle.format.specs.declared.To.the-variants.{At, Fault as Off}
 use Rattle.reading.specs.declared.Answer.{Answer}
 use Rattle.reading.specs.declared.Answer.the-variants.{Reads, Refused}
 use Rattle.reading.specs.Reading.{functionsAt, partsAt, answered, readAt}
-use Rattle.reading.specs.Limits.{Limits, read-limits}
+use Rattle.reading.specs.Limits.{read-limits}
 use Rattle.reading.specs.Linked.{all-read, touches}
 
 module _ (t : List ℕ) where
@@ -68,7 +67,7 @@ module _ (t : List ℕ) where
   abbrev pub Packs : ℕ → Type 0
   Packs at = (packedIn (z .registers) (z .arrays) (packedAt t (at + 3)) ≡ true) × (packedIn (z .registers) (z .arrays) (packedAt t (at + 10)) ≡ true)
 
-  -- a signature that n others follow: the next one is due 17 bytes on, and the entry's in status byte is 0
+  -- a signature that n others follow: the next one is due 17 bytes on, its environments are levels, and the entry's in status byte is 0
   abbrev Signed : ℕ → ℕ → To → Type 0
   Signed n at (At p) = (p ≡ at + 17) × Packs at × (n ≡ 0 → byte t (at + 3) ≡ 0)
   Signed n at (Off k p) = Unit {0}
@@ -116,49 +115,52 @@ module _ (t : List ℕ) where
       go (At p) (e, s, f) ih = more p (signaturesAt z t n p) e s f (ih p)
       go (Off a b) s ih = tt
 
-  -- the entry's in status is unknown, and every signature's environments are levels
-  abbrev Fresh : To → Type 0
-  Fresh (At p) = (1 ≤ z .functions → byte t (signaturePlace z (z .functions - 1) + 3) ≡ 0) × ((f : ℕ) → f < z .functions → Packs (signaturePlace z f))
-  Fresh (Off n p) = Unit {0}
+  -- what the signatures have: the entry's in status is unknown, and every one's environments are levels
+  abbrev Signatures : Type 0
+  Signatures = (1 ≤ z .functions → byte t (signaturePlace z (z .functions - 1) + 3) ≡ 0) × ((f : ℕ) → f < z .functions → Packs (signaturePlace z f))
 
-  rest-fresh : (w v : To) (f : ℕ → To) → w ≡ v → AllSigned (z .functions) (4 + 3 * z .arrays) v → Fresh (then v f)
-  rest-fresh w (Off n p) f e s = tt
-  rest-fresh w (At p) f e s = keep (f p)
+  abbrev SignedAt : To → Type 0
+  SignedAt (At p) = Signatures
+  SignedAt (Off n p) = Unit {0}
+
+  rest-signed : (w v : To) (f : ℕ → To) → w ≡ v → AllSigned (z .functions) (4 + 3 * z .arrays) v → SignedAt (then v f)
+  rest-signed w (Off n p) f e s = tt
+  rest-signed w (At p) f e s = keep (f p)
     where
-      keep : (u : To) → Fresh u
+      keep : (u : To) → SignedAt u
       keep (At q) = s
       keep (Off n q) = tt
 
-  parts-fresh : Fresh (partsAt z t)
+  parts-signed : SignedAt (partsAt z t)
   unfolding partsAt
-  parts-fresh = first (sizesAt t 0) sizes-go
+  parts-signed = first (sizesAt t 0) sizes-go
     where
-      third : (q : ℕ) → q ≡ 4 + 3 * z .arrays → Fresh (then (signaturesAt z t (z .functions) q) (functionsAt z t (z .functions)))
-      third q e = rw e (rest-fresh _ (signaturesAt z t (z .functions) (4 + 3 * z .arrays)) (functionsAt z t (z .functions)) refl (signatures-sign (z .functions) (4 + 3 * z .arrays)))
+      third : (q : ℕ) → q ≡ 4 + 3 * z .arrays → SignedAt (then (signaturesAt z t (z .functions) q) (functionsAt z t (z .functions)))
+      third q e = rw e (rest-signed _ (signaturesAt z t (z .functions) (4 + 3 * z .arrays)) (functionsAt z t (z .functions)) refl (signatures-sign (z .functions) (4 + 3 * z .arrays)))
 
-      second : (p : ℕ) → p ≡ 4 → (w : To) → Goes (p + 3 * z .arrays) w → Fresh (then w (λ q. then (signaturesAt z t (z .functions) q) (functionsAt z t (z .functions))))
+      second : (p : ℕ) → p ≡ 4 → (w : To) → Goes (p + 3 * z .arrays) w → SignedAt (then w (λ q. then (signaturesAt z t (z .functions) q) (functionsAt z t (z .functions))))
       second p e (At q) g = third q (omega arith)
       second p e (Off a b) g = tt
 
-      first : (w : To) → Goes 4 w → Fresh (then w (λ p. then (arraysAt t (z .arrays) p) (λ q. then (signaturesAt z t (z .functions) q) (functionsAt z t (z .functions)))))
+      first : (w : To) → Goes 4 w → SignedAt (then w (λ p. then (arraysAt t (z .arrays) p) (λ q. then (signaturesAt z t (z .functions) q) (functionsAt z t (z .functions)))))
       first (At p) e = second p e (arraysAt t (z .arrays) p) (arrays-go (z .arrays) p)
       first (Off a b) e = tt
 
-  abbrev AnswerFresh : Answer → Type 0
-  AnswerFresh (Reads y) = (1 ≤ z .functions → byte t (signaturePlace z (z .functions - 1) + 3) ≡ 0) × ((f : ℕ) → f < z .functions → Packs (signaturePlace z f))
-  AnswerFresh (Refused n p) = Unit {0}
+  abbrev AnswerSigned : Answer → Type 0
+  AnswerSigned (Reads y) = Signatures
+  AnswerSigned (Refused n p) = Unit {0}
 
-  answered-fresh : (w : To) → Fresh w → AnswerFresh (answered z w)
-  answered-fresh (At p) h = h
-  answered-fresh (Off n p) h = tt
+  answered-signed : (w : To) → SignedAt w → AnswerSigned (answered z w)
+  answered-signed (At p) h = h
+  answered-signed (Off n p) h = tt
 
-  answer-fresh : AnswerFresh (readAt t)
+  answer-signed : AnswerSigned (readAt t)
   unfolding readAt
-  answer-fresh = pick-ind AnswerFresh (ltb 32768 (length t)) (λ _. tt) (λ _. answered-fresh (partsAt z t) parts-fresh)
+  answer-signed = pick-ind AnswerSigned (ltb 32768 (length t)) (λ _. tt) (λ _. answered-signed (partsAt z t) parts-signed)
 
   -- the environments of every signature: no slot is 3, and unused slots are 0
   pub signed : (y : Sizes) → readAt t ≡ Reads y → (f : ℕ) → f < z .functions → Packs (signaturePlace z f)
-  signed y e = subst AnswerFresh e answer-fresh .1
+  signed y e = subst AnswerSigned e answer-signed .1
 
   -- WHAT READING FOUND OUT
   pub known : (y : Sizes) → readAt t ≡ Reads y → Known (tableOf t)
@@ -167,7 +169,7 @@ module _ (t : List ℕ) where
       let some-function : 1 ≤ z .functions = l .1 .some-function in
       let blocks : Every (tableOf t) reading = λ g k. all-read t y e g k .blocks in
       let last : entry (tableOf t) < z .functions = omega arith in
-      let status = subst AnswerFresh e answer-fresh .0 some-function in
+      let status = subst AnswerSigned e answer-signed .0 some-function in
       record {
         some-function = last;
         fresh = rw status;

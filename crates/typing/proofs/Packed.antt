@@ -11,12 +11,11 @@ use Rattle.model.specs.Tests.{pick, put, pick-ind}
 use Rattle.model.specs.Levels.{levelsWithin}
 use Rattle.model.specs.Packing.{slot}
 use Rattle.model.specs.Rules.{settle, beside}
-use Rattle.model.specs.Whole.{Levelled}
-use Rattle.model.specs.Words.{NoThree, lows, joinWords, withinWords, settleWord, putWord, slot-small, bits, lows-lt, lows-levels, slot-lows, join-words, within-words, settle-word, put-word}
+use Rattle.model.specs.Words.{NoThree, Levelled, lows, joinWords, withinWords, settleWord, putWord, slot-small, bits, lows-lt, lows-levels, slot-lows, join-words, within-words, settle-word, put-word}
 
 -- one slot
-pub put-is : (w i v : ℕ) {r : ℕ} → i < 16 → v < 4 → r ≡ pick (ltb i 16) (putWord w i (v % 4)) w → slot r ≡ put (slot w) i v
-put-is w i v {r} l h e = λ j k. point k j
+pub put-slot : (w i v : ℕ) {r : ℕ} → i < 16 → v < 4 → r ≡ pick (ltb i 16) (putWord w i (v % 4)) w → slot r ≡ put (slot w) i v
+put-slot w i v {r} l h e = λ j k. point k j
   where
     is : r ≡ putWord w i v
     is = e ∙ rw (lt-ltb i 16 l, mod-eq-of-lt h) refl
@@ -25,15 +24,15 @@ put-is w i v {r} l h e = λ j k. point k j
     point k = ap (λ (x : ℕ). slot x k) is ∙ put-word w i v h k
 
 -- the join
-pub join-is : (a b : ℕ) {r : ℕ} → a < 4 ^ 16 → b < 4 ^ 16 → NoThree a → NoThree b → r ≡ joinWords 16 a b → slot r ≡ (λ (i : ℕ). max (slot a i) (slot b i))
-join-is a b {r} h l p q e = λ j k. point k j
+pub join-slots : (a b : ℕ) {r : ℕ} → a < 4 ^ 16 → b < 4 ^ 16 → NoThree (slot a) → NoThree (slot b) → r ≡ joinWords 16 a b → slot r ≡ (λ (i : ℕ). max (slot a i) (slot b i))
+join-slots a b {r} h l p q e = λ j k. point k j
   where
     point : (k : ℕ) → slot r k ≡ max (slot a k) (slot b k)
     point k = ap (λ (x : ℕ). slot x k) e ∙ join-words 16 a b h l p q k
 
 -- within, over the n slots that both words keep to
-pub within-is : (n a b : ℕ) {r : Bool} → a < 4 ^ 16 → b < 4 ^ 16 → Levelled n (slot a) → Levelled n (slot b) → r ≡ withinWords 16 a b → levelsWithin n (slot a) (slot b) ≡ r
-within-is n a b h l w v e = sym (within-words 16 n a b h l (w .known) (v .known) (w .unused) (v .unused)) ∙ sym e
+pub within-slots : (n a b : ℕ) {r : Bool} → a < 4 ^ 16 → b < 4 ^ 16 → Levelled n (slot a) → Levelled n (slot b) → r ≡ withinWords 16 a b → levelsWithin n (slot a) (slot b) ≡ r
+within-slots n a b h l w v e = sym (within-words 16 n a b h l w v) ∙ sym e
 
 -- one level settled
 pub settle-small : (w i : ℕ) → settle (slot w i) < 4
@@ -41,8 +40,8 @@ unfolding settle
 settle-small w i = pick-ind (λ x. x < 4) (leb (slot w i) 1) (λ _. omega arith) (λ _. slot-small w i)
 
 -- INIT
-pub settle-is : (a : ℕ) {r : ℕ} → a < 4 ^ 16 → NoThree a → r ≡ settleWord 16 a → slot r ≡ (λ (i : ℕ). settle (slot a i))
-settle-is a {r} h p e = λ j k. point k j
+pub settle-slots : (a : ℕ) {r : ℕ} → a < 4 ^ 16 → NoThree (slot a) → r ≡ settleWord 16 a → slot r ≡ (λ (i : ℕ). settle (slot a i))
+settle-slots a {r} h p e = λ j k. point k j
   where
     point : (k : ℕ) → slot r k ≡ settle (slot a k)
     point k = ap (λ (x : ℕ). slot x k) e ∙ settle-word 16 a h p k
@@ -55,9 +54,9 @@ beside-none m b v = pick-ind (λ x. x ≡ v) (ltb b m) (λ _. omega arith) (λ _
 pub beside-public : (a m l : ℕ) → l ≡ 0 → slot a ≡ (λ (b : ℕ). beside m l b (slot a b))
 beside-public a m l e = rw e (λ j k. sym (beside-none m k (slot a k)) j)
 
-pub beside-is : (a m l : ℕ) {r : ℕ} → a < 4 ^ 16 → NoThree a → m ≤ 16 → (l ≡ 0 → ⊥) → r ≡ joinWords 16 a (lows (min m 16)) → slot r ≡ (λ (b : ℕ). beside m l b (slot a b))
+pub beside-slots : (a m l : ℕ) {r : ℕ} → a < 4 ^ 16 → NoThree (slot a) → m ≤ 16 → (l ≡ 0 → ⊥) → r ≡ joinWords 16 a (lows (min m 16)) → slot r ≡ (λ (b : ℕ). beside m l b (slot a b))
 unfolding beside
-beside-is a m l {r} h p s n e = λ j k. point k j
+beside-slots a m l {r} h p s n e = λ j k. point k j
   where
     least : min m 16 ≡ m
     least = omega arith

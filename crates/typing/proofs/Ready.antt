@@ -7,7 +7,7 @@ use Rattle.model.specs.declared.Sizes.{Sizes}
 use Rattle.reading.specs.Limits.{read-limits}
 use Rattle.reading.specs.Reading.{readAt}
 use Rattle.reading.specs.declared.Answer.the-variants.{Reads}
-use Rattle.typing.specs.Envs.{Small, Ready}
+use Rattle.typing.specs.Envs.{Ready}
 use Rattle.typing.specs.Slots.{enters, leaves}
 
 pub ready : (t : List ℕ) (z : Sizes) → readAt t ≡ Reads z → Ready z t 0 16

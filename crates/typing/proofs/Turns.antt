@@ -36,6 +36,10 @@ use Rattle.typing.specs.Bounds.{Ok, OkBlock, record-ok, block-walk-ok}
 pub seen : (w : Walk) {to : Walked} → w .to ≡ to → viewWalk w ≡ going to (viewEnv (w .env))
 seen w e = ap (λ (x : Walked). going x (viewEnv (w .env))) e
 
+-- what was walked, by where it came
+pub arrived : (w : Walk) {x : Walking Environment} {to : Walked} → viewWalk w ≡ x → w .to ≡ to → x ≡ going to (viewEnv (w .env))
+arrived w h e = sym h ∙ seen w e
+
 pub halts : (w : Walk) {n p : ℕ} → w .to ≡ Fault n p → viewWalk w ≡ Halt n p
 halts w e = ap (λ (x : Walked). going x (viewEnv (w .env))) e
 

@@ -2,12 +2,14 @@
 -- The packed forms of within and join (Rattle.model.specs.Words) ask for no more.
 use Prim.Native.Nat.{ℕ, _<_}
 use mathlib.Core.Path.{_≡_, subst}
+use mathlib.Core.Bool.{Bool}
 use mathlib.Core.List.{List}
 use Rattle.model.specs.Levels.{Env as Environment}
 use Rattle.model.specs.Packing.{envOf}
-use Rattle.model.specs.Records.{Fits}
+use Rattle.model.specs.Records.{Keeps}
+use Rattle.model.specs.Rules.{guarded}
 use Rattle.model.specs.Table.{Table}
-use Rattle.model.specs.Whole.{Whole, Where, packed-whole, record-whole}
+use Rattle.model.specs.Whole.{Whole, Where, packed-whole, guarded-whole, record-whole}
 use Rattle.model.specs.declared.Packed.{Packed}
 use Rattle.model.specs.declared.Record.the-variants.{While}
 use Rattle.format.specs.Layout.{sizesOf, tableOf}
@@ -28,8 +30,11 @@ module _ (t : List ℕ) (r : Readable t) where
 
   -- a loop's
   pub loops : (p q e : ℕ) (L : Packed) → T .rec p ≡ While q e L → Whole (T .registers) (T .arrays) (envOf L)
-  loops p q e L i = packed-whole (T .registers) (T .arrays) L (subst (Fits (T .registers) (T .arrays) (T .functions)) i (T .fits p) .1)
+  loops p q e L i = packed-whole (T .registers) (T .arrays) L (subst (Keeps (T .registers) (T .arrays) (T .functions)) i (T .keeps p))
 
-  -- and from one that keeps to the slots, wherever the walk goes
+  -- from one that keeps to the slots: the first of a block, and wherever the walk of a record comes
+  pub opens : (E : Environment) (q : ℕ) (s : Bool) → Whole (T .registers) (T .arrays) E → Whole (T .registers) (T .arrays) (guarded E q s)
+  opens E q s w = guarded-whole (T .registers) (T .arrays) E w q s
+
   pub goes-on : (d p : ℕ) (E : Environment) → Whole (T .registers) (T .arrays) E → Where (Whole (T .registers) (T .arrays)) (recordWalk (sizesOf t) t d p E)
   goes-on d p E w = record-whole T leaves d _ p E w

@@ -114,8 +114,8 @@ fn status_of(b: u8) -> Status
     Status::Unknown
 }
 
-// What seven bytes mean. The words go over as they are.
-pub(crate) fn unpack(p: Packed) -> Env
+// What seven bytes mean: the two words go over as they are.
+pub(crate) fn env_of(p: Packed) -> Env
     ensures { λ r. ⌜ viewEnv r ≡ envOf p ⌝ }
 {
     let status = status_of(p.status);

@@ -180,13 +180,12 @@ fn raised_env(e: Env, others: u32, array: u8, source: u8) -> Env
     }
 }
 
-// The levels of so many arrays beside one into which the source's level is stored: what was public becomes transient, unless
-// the source is public.
-fn beside_levels(arrays: u32, count: u8, source: u8) -> u32
-    requires { ⌜ NoThree arrays × (count ≤ 16) ⌝ }
-    ensures { λ r. ⌜ slot r ≡ (λ b. beside count source b (slot arrays b)) ⌝ }
+// The levels of so many arrays beside one into which level l is stored: what was public becomes transient, unless l is public.
+fn beside_levels(arrays: u32, count: u8, l: u8) -> u32
+    requires { ⌜ NoThree (slot arrays) × (count ≤ 16) ⌝ }
+    ensures { λ r. ⌜ slot r ≡ (λ b. beside count l b (slot arrays b)) ⌝ }
 {
-    if source == 0 {
+    if l == 0 {
         return arrays;
     }
     join_levels(arrays, transients(count))

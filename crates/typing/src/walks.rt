@@ -2,11 +2,11 @@
 // is the nesting that is left, and within a block the bytes left.
 use crate::Env;
 use crate::Walk;
+use crate::environments::env_of;
 use crate::environments::env_within;
 use crate::environments::guarded_env;
 use crate::environments::join_envs;
 use crate::environments::returned_env;
-use crate::environments::unpack;
 use crate::rules::after_simple;
 use crate::rules::is_met;
 use crate::rules::is_public;
@@ -19,13 +19,14 @@ use model::Sizes;
 use model::Typing;
 use model::Walked;
 ghost use mathlib.Core.Path.{_≡_};
-ghost use Prim.Native.Nat.{_+_, _-_, _<_, _≤_};
+ghost use Prim.Native.Nat.{_+_, _<_, _≤_};
 ghost use lib.ListN.{length};
 ghost use Rattle.model.specs.Packing.{envOf};
 ghost use Rattle.model.specs.Records.{SimpleFits};
 ghost use Rattle.model.specs.Typing.{typeFrom};
 ghost use Rattle.model.specs.Walk.{Shut as Closed};
 ghost use Rattle.model.specs.Whole.{NoThrees, Where};
+ghost use Rattle.model.specs.declared.Sizes.{Sizes};
 ghost use Rattle.typing.specs.Envs.{viewEnv, Fit, Signed, Small, Ready};
 ghost use Rattle.typing.specs.Walks.{viewWalk, Close, bare, simpleWalk, callWalk, joinWalk, backWalk, table, size, recordWalk, blockWalk, ifWalk, whileWalk, functionWalk};
 
@@ -52,9 +53,9 @@ fn call(t: &[u8], z: Sizes, function: u8, mark: bool, at: usize, next: usize, e:
     requires { ⌜ Signed z (now t) function × Fit z (viewEnv e) ⌝ }
     ensures { λ r. ⌜ viewWalk r ≡ callWalk z (now (t .entry)) function mark at next (viewEnv e) ⌝ }
 {
-    let into = unpack(layout::in_of(t, z, function));
+    let into = env_of(layout::in_of(t, z, function));
     if env_within(e, into) {
-        let out = unpack(layout::out_of(t, z, function));
+        let out = env_of(layout::out_of(t, z, function));
         let env = returned_env(out, mark, e);
         return Walk {
             to: Walked::Next(next),
@@ -127,7 +128,7 @@ fn repeat(t: &[u8], z: Sizes, at: usize, register: u8, packed: Packed, depth: u8
     requires { ⌜ Ready z (now t) at depth × (at + 11 ≤ length (now t)) × Fit z (viewEnv e) × Fit z (envOf packed) ⌝ }
     ensures { λ r. ⌜ viewWalk r ≡ whileWalk z (now (t .entry)) depth at register packed (viewEnv e) ⌝ }
 {
-    let kept = unpack(packed);
+    let kept = env_of(packed);
     if !env_within(e, kept) {
         return fault(12, at, e);
     }
@@ -139,13 +140,13 @@ fn repeat(t: &[u8], z: Sizes, at: usize, register: u8, packed: Packed, depth: u8
     }
     let inside = guarded_env(kept, register, true);
     let body = block(t, z, at + 11, depth - 1, inside);
-    back(z, register, packed, body)
+    back(register, packed, body)
 }
 
-// The end of a loop's body: back to the loop environment, and past the loop.
-fn back(z: Sizes, register: u8, packed: Packed, body: Walk) -> Walk
-    requires { ⌜ Close (body .to) × Where (Fit z) (viewWalk body) × Fit z (envOf packed) ⌝ }
-    ensures { λ r. ⌜ viewWalk r ≡ backWalk z register packed (viewWalk body) ⌝ }
+// The end of a loop's body: back to the loop environment, and past the loop. So for any sizes that both keep to.
+fn back(register: u8, packed: Packed, body: Walk) -> Walk
+    requires { ⌜ Close (body .to) ⌝ }
+    ensures { λ r. ⌜ ((z : Sizes) → Where (Fit z) (viewWalk body) → Fit z (envOf packed) → viewWalk r ≡ backWalk z register packed (viewWalk body)) ⌝ }
 {
     let to = body.to;
     let env1 = body.env;
@@ -153,7 +154,7 @@ fn back(z: Sizes, register: u8, packed: Packed, body: Walk) -> Walk
         Walked::Next(p) => fault(3, p, env1),
         Walked::Fault(n, p) => fault(n, p, env1),
         Walked::Shut(p) => {
-            let kept = unpack(packed);
+            let kept = env_of(packed);
             if !env_within(env1, kept) {
                 return fault(12, p, env1);
             }
@@ -228,7 +229,7 @@ fn function(t: &[u8], z: Sizes, g: u8) -> Walked
     ensures { λ r. ⌜ r ≡ bare (functionWalk z (now (t .entry)) g) ⌝ }
 {
     let start = layout::start_of(t, z, g);
-    let into = unpack(layout::in_of(t, z, g));
+    let into = env_of(layout::in_of(t, z, g));
     let w = block(t, z, start, 16, into);
     let to = w.to;
     let e = w.env;
@@ -236,7 +237,7 @@ fn function(t: &[u8], z: Sizes, g: u8) -> Walked
         Walked::Next(p) => Walked::Fault(3, p),
         Walked::Fault(n, p) => Walked::Fault(n, p),
         Walked::Shut(p) => {
-            let out = unpack(layout::out_of(t, z, g));
+            let out = env_of(layout::out_of(t, z, g));
             if env_within(e, out) {
                 return Walked::Shut(p);
             }

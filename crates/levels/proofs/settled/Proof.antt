@@ -1,7 +1,6 @@
-use borrow.Author.Tests.{lt-ltb, le-ltb, le-leb, lt-leb, eq-eqb, ne-eqb}
+use borrow.Author.Tests.{le-leb, lt-leb}
+use Prim.Native.Nat.{_≤_, _<_}
 use native.Mathlib.Omega.{arith}
-use Prim.Native.Nat.{ℕ, _≤_, _<_, max}
-use mathlib.Core.Path.{_≡_, refl, sym, ap, _∙_}
 use Rattle.model.specs.Rules.{settle}
 use Rattle.levels.proofs.settled.Statement.{statement}
 use Rattle.levels.proofs.settled.Tie as tie
@@ -11,12 +10,12 @@ use Rattle.levels.proofs.settled.Lts as lts
 returns : tie.Need-returns
 unfolding settle
 returns c =
-    let h = c .if1 .taken in simp le-leb
+    let h : c .before .args .a ≤ 1 = omega (arith, c .if1 .taken) in simp le-leb
 
 returns-2 : tie.Need-returns-2
 unfolding settle
 returns-2 c =
-    let h = c .if1 .left in simp lt-leb
+    let h : 1 < c .before .args .a = omega (arith, c .if1 .left) in simp lt-leb
 
 pub settled-spec : {M : Type 1} → statement M
 settled-spec = tie.close (tie.spec returns returns-2)

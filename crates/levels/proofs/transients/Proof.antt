@@ -1,6 +1,6 @@
-use mathlib.Core.Path.{refl, sym, ap, _∙_}
+use mathlib.Core.Path.{sym, ap, _∙_}
 use native.Mathlib.Omega.{arith}
-use Prim.Native.Nat.{ℕ, _≤_, min}
+use Prim.Native.Nat.{min}
 use mathlib.Core.Path.{_≡_}
 use Rattle.model.specs.Words.{lows}
 use Rattle.levels.proofs.Shifts.{mask-pos, lows-shifted}

@@ -1,6 +1,5 @@
-use Prim.Native.Nat.{ℕ, _^_, _<_, _≤_, max}
 use native.Mathlib.Omega.{arith}
-use Rattle.typing.proofs.Packed.{join-is}
+use Rattle.typing.proofs.Packed.{join-slots}
 use borrow.Author.Needs.{needs}
 use Rattle.typing.proofs.environments.join_envs.Statement.{statement}
 use Rattle.typing.proofs.environments.join_envs.Tie as tie
@@ -22,8 +21,8 @@ returns : tie.Need-returns
 returns c =
     let a = c .before .before .before .args in
     let p = c .before .before .before .pre in
-    let regs = join-is (a .e .registers) (a .f .registers) (omega arith) (omega arith) (p .0 .0) (p .1 .0) (c .before .join-levels .ensures) in
-    let arrays = join-is (a .e .arrays) (a .f .arrays) (omega arith) (omega arith) (p .0 .1) (p .1 .1) (c .join-levels2 .ensures) in
+    let regs = join-slots (a .e .registers) (a .f .registers) (omega arith) (omega arith) (p .0 .0) (p .1 .0) (c .before .join-levels .ensures) in
+    let arrays = join-slots (a .e .arrays) (a .f .arrays) (omega arith) (omega arith) (p .0 .1) (p .1 .1) (c .join-levels2 .ensures) in
     λ i. record { status = c .before .before .join-status .ensures i; regs = regs i; arrays = arrays i }
 
 pub join-envs-spec : {M : Type 1} → statement M

@@ -1,8 +1,7 @@
-use Prim.Native.Nat.{ℕ, _^_, _<_, _≤_, max}
 use native.Mathlib.Omega.{arith}
 use Rattle.model.specs.Packing.{slot}
 use Rattle.model.specs.declared.Status.the-variants.{Updated}
-use Rattle.typing.proofs.Packed.{settle-is}
+use Rattle.typing.proofs.Packed.{settle-slots}
 use borrow.Author.Needs.{needs}
 use Rattle.typing.proofs.rules.after_init.Statement.{statement}
 use Rattle.typing.proofs.rules.after_init.Tie as tie
@@ -16,7 +15,7 @@ settle-levels-requires c κs = search needs
 returns : tie.Need-returns
 returns c =
     let a = c .before .args in
-    let regs = settle-is (a .e .registers) (omega arith) (c .before .pre .0) (c .settle-levels .ensures) in
+    let regs = settle-slots (a .e .registers) (omega arith) (c .before .pre .0) (c .settle-levels .ensures) in
     λ i. record { status = Updated; regs = regs i; arrays = slot (a .e .arrays) }
 
 pub after-init-spec : {M : Type 1} → statement M

@@ -1,9 +1,7 @@
-use Prim.Native.Nat.{ℕ, _^_, _<_, _≤_, max}
-use native.Mathlib.Omega.{arith}
+use Prim.Native.Nat.{_<_}
 use Rattle.model.specs.Packing.{slot}
 use Rattle.model.specs.declared.Status.the-variants.{Updated}
-use Rattle.model.specs.Words.{slot-small}
-use Rattle.typing.proofs.Packed.{settle-small, put-is}
+use Rattle.typing.proofs.Packed.{settle-small, put-slot}
 use borrow.Author.Needs.{needs}
 use Rattle.typing.proofs.rules.after_protect.Statement.{statement}
 use Rattle.typing.proofs.rules.after_protect.Tie as tie
@@ -26,7 +24,7 @@ returns : tie.Need-returns
 returns c =
     let a = c .before .before .before .args in
     let v : c .before .settled .result < 4 = rw (c .before .settled .ensures, c .before .before .level .ensures) (settle-small (a .e .registers) (a .source)) in
-    let w = put-is (a .e .registers) (a .dest) (c .before .settled .result) (c .before .before .before .pre) v (c .with-level .ensures) in
+    let w = put-slot (a .e .registers) (a .dest) (c .before .settled .result) (c .before .before .before .pre) v (c .with-level .ensures) in
     let p = simp (c .before .settled .ensures, c .before .before .level .ensures) at w in
     λ i. record { status = Updated; regs = p i; arrays = slot (a .e .arrays) }
 

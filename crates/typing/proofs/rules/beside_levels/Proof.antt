@@ -1,8 +1,7 @@
-use Prim.Native.Nat.{ℕ, _^_, _<_, _≤_, max}
 use native.Mathlib.Omega.{arith}
-use mathlib.Core.Path.{_≡_, ap, _∙_}
+use mathlib.Core.Path.{ap, _∙_}
 use Rattle.model.specs.Words.{joinWords}
-use Rattle.typing.proofs.Packed.{beside-public, beside-is}
+use Rattle.typing.proofs.Packed.{beside-public, beside-slots}
 use borrow.Author.Needs.{needs}
 use Rattle.typing.proofs.rules.beside_levels.Statement.{statement}
 use Rattle.typing.proofs.rules.beside_levels.Tie as tie
@@ -12,7 +11,7 @@ use Rattle.levels.proofs.join_levels.Reads as join-levels-reads
 use Rattle.levels.proofs.transients.Reads as transients-reads
 
 returns : tie.Need-returns
-returns c = beside-public (c .before .args .arrays) (c .before .args .count) (c .before .args .source) (c .if1 .taken)
+returns c = beside-public (c .before .args .arrays) (c .before .args .count) (c .before .args .l) (c .if1 .taken)
 
 transients-requires : tie.Need-transients-requires
 transients-requires c κs = search needs
@@ -24,7 +23,7 @@ returns-2 : tie.Need-returns-2
 returns-2 c =
     let a = c .before .before .before .args in
     let p = c .before .before .before .pre in
-    beside-is (a .arrays) (a .count) (a .source) (omega arith) (p .0) (p .1) (c .before .before .if1 .left) (c .join-levels .ensures ∙ ap (joinWords 16 (a .arrays)) (c .before .transients .ensures))
+    beside-slots (a .arrays) (a .count) (a .l) (omega arith) (p .0) (p .1) (c .before .before .if1 .left) (c .join-levels .ensures ∙ ap (joinWords 16 (a .arrays)) (c .before .transients .ensures))
 
 pub beside-levels-spec : {M : Type 1} → statement M
 beside-levels-spec =

@@ -1,8 +1,8 @@
-use Prim.Native.Nat.{ℕ, _^_, _<_, _≤_, max}
+use Prim.Native.Nat.{_<_}
 use native.Mathlib.Omega.{arith}
 use Rattle.model.specs.Words.{slot-small}
 use Rattle.model.specs.Packing.{slot}
-use Rattle.typing.proofs.Packed.{put-is}
+use Rattle.typing.proofs.Packed.{put-slot}
 use borrow.Author.Needs.{needs}
 use Rattle.typing.proofs.rules.raised_env.Statement.{statement}
 use Rattle.typing.proofs.rules.raised_env.Tie as tie
@@ -28,7 +28,7 @@ returns : tie.Need-returns
 returns c =
     let a = c .before .before .before .before .args in
     let v : c .before .larger .result < 4 = omega (arith, c .before .larger .ensures, c .before .before .level2 .ensures, c .before .before .before .level .ensures, slot-small (a .e .arrays) (a .array), slot-small (a .e .registers) (a .source)) in
-    let w = put-is (a .others) (a .array) (c .before .larger .result) (c .before .before .before .before .pre) v (c .with-level .ensures) in
+    let w = put-slot (a .others) (a .array) (c .before .larger .result) (c .before .before .before .before .pre) v (c .with-level .ensures) in
     let p = simp (c .before .larger .ensures, c .before .before .level2 .ensures, c .before .before .before .level .ensures) at w in
     λ i. record { status = a .e .status; regs = slot (a .e .registers); arrays = p i }
 

@@ -1,7 +1,5 @@
-use Prim.Native.Nat.{ℕ, _^_, _<_, _≤_, max}
-use native.Mathlib.Omega.{arith}
 use Rattle.model.specs.Packing.{slot}
-use Rattle.typing.proofs.Packed.{put-is}
+use Rattle.typing.proofs.Packed.{put-slot}
 use borrow.Author.Needs.{needs}
 use Rattle.typing.proofs.rules.written_env.Statement.{statement}
 use Rattle.typing.proofs.rules.written_env.Tie as tie
@@ -20,7 +18,7 @@ returns : tie.Need-returns
 returns c =
     let a = c .before .before .args in
     let p = c .before .before .pre in
-    let regs = put-is (a .e .registers) (a .d) (a .l) (p .0) (p .1) (c .before .with-level .ensures) in
+    let regs = put-slot (a .e .registers) (a .d) (a .l) (p .0) (p .1) (c .before .with-level .ensures) in
     λ i. record { status = c .killed .ensures i; regs = regs i; arrays = slot (a .e .arrays) }
 
 pub written-env-spec : {M : Type 1} → statement M

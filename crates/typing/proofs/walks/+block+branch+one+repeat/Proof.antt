@@ -10,7 +10,7 @@ use borrow.Fn.Kinds.{In}
 use borrow.Fn.PlainCycle.{Measures, is, falls, and}
 use Rattle.model.specs.declared.Record.{Record}
 use Rattle.model.specs.Rules.{guarded}
-use Rattle.model.specs.Records.{Fits, lengthOf}
+use Rattle.model.specs.Records.{Fits, Keeps, lengthOf}
 use Rattle.model.specs.Levels.{Env as Environment}
 use Rattle.format.specs.Laws.{good}
 use Rattle.model.specs.Packing.{envOf}
@@ -18,7 +18,7 @@ use Rattle.model.specs.Whole.{NoThrees, no-threes, packed-whole, where-map}
 use Rattle.typing.specs.Walks.{viewWalk, simpleWalk, callWalk, joinWalk, backWalk, size, blockWalk}
 use Rattle.typing.specs.Envs.{viewEnv, Fit}
 use Rattle.typing.proofs.Ready.{moved}
-use Rattle.typing.proofs.Turns.{seen, halts, at-shut, guarded-fit, next-fit, walk-fit, within-packed, record-got, record-bad, record-is, if-private, if-deep, if-is, while-out, while-private, while-deep, while-is, shut-near, block-close, next-ok, turn-next, turn-shut, turn-fault}
+use Rattle.typing.proofs.Turns.{arrived, halts, at-shut, guarded-fit, next-fit, walk-fit, within-packed, record-got, record-bad, record-is, if-private, if-deep, if-is, while-out, while-private, while-deep, while-is, shut-near, block-close, next-ok, turn-next, turn-shut, turn-fault}
 use Rattle.typing.proofs.walks.block.Reads as block
 use Rattle.typing.proofs.walks.block.Kinds as block-kinds
 use Rattle.typing.proofs.walks.+block+branch+one+repeat.Lts-block as block-lts
@@ -34,7 +34,7 @@ use Rattle.typing.proofs.walks.+block+branch+one+repeat.Lts-repeat as r
 use Rattle.records.proofs.decode.Reads as decode-reads
 use Rattle.typing.proofs.environments.env_within.Reads as env-within-reads
 use Rattle.typing.proofs.environments.guarded_env.Reads as guarded-env-reads
-use Rattle.typing.proofs.environments.unpack.Reads as unpack-reads
+use Rattle.typing.proofs.environments.env_of.Reads as env-of-reads
 use Rattle.typing.proofs.rules.is_public.Reads as is-public-reads
 use Rattle.typing.proofs.walks.back.Reads as back-reads
 use Rattle.typing.proofs.walks.call.Reads as call-reads
@@ -133,7 +133,7 @@ block-loop-less : (t : ℕ) → block-lts.Need-loop-less (
 block-loop-less t c =
     let a = c .before .before .before .before .before .before .before .args in
     let L = c .before .before .before .before .before .loop in
-    let e = sym (c .before .before .before .before .one .ensures) ∙ seen (c .before .before .before .before .one .result) (c .before .to .given .1) in
+    let e = arrived (c .before .before .before .before .one .result) (c .before .before .before .before .one .ensures) (c .before .to .given .1) in
     let o = next-ok (a .z) (a .t .now) (a .depth) (L .at) (viewEnv (L .e)) e in
     omega (arith, o .0, o .1)
 
@@ -149,7 +149,7 @@ block-loop-again t c =
     let a = c .before .before .before .before .before .before .before .args in
     let L = c .before .before .before .before .before .loop in
     let p = c .before .before .before .before .before .before .before .pre .1 .0 in
-    let e = sym (c .before .before .before .before .one .ensures) ∙ seen (c .before .before .before .before .one .result) (c .before .to .given .1) in
+    let e = arrived (c .before .before .before .before .one .result) (c .before .before .before .before .one .ensures) (c .before .to .given .1) in
     let o = next-ok (a .z) (a .t .now) (a .depth) (L .at) (viewEnv (L .e)) e in
     let n = turn-next (a .z) (a .t .now) (a .depth) (L .inv .0) (L .at) (viewEnv (L .e)) e (L .inv .1) in
     (n .0, n .1, omega (arith, o .2, p .short, p .shallow), next-fit (a .z) (a .t .now) p (a .depth) (L .at) (viewEnv (L .e)) (L .inv .3) e, L .inv .4 ∙ n .2)
@@ -185,7 +185,7 @@ block-returns : (t : ℕ) → block-lts.Need-returns (
 block-returns t c =
     let a = c .before .before .before .before .before .before .before .before .args in
     let L = c .before .before .before .before .before .before .loop in
-    let e = sym (c .before .before .before .before .before .one .ensures) ∙ seen (c .before .before .before .before .before .one .result) (c .before .before .to2 .given .1) in
+    let e = arrived (c .before .before .before .before .before .one .result) (c .before .before .before .before .before .one .ensures) (c .before .before .to2 .given .1) in
     c .shut .ensures ∙ sym (L .inv .4 ∙ turn-shut (a .z) (a .t .now) (a .depth) (L .inv .0) (L .at) (viewEnv (L .e)) e (L .inv .1))
 
 block-enum-known-to-3 : (t : ℕ) → block-lts.Need-enum-known-to-3 (
@@ -219,7 +219,7 @@ block-returns-2 : (t : ℕ) → block-lts.Need-returns-2 (
 block-returns-2 t c =
     let a = c .before .before .before .before .before .before .before .before .args in
     let L = c .before .before .before .before .before .before .loop in
-    let e = sym (c .before .before .before .before .before .one .ensures) ∙ seen (c .before .before .before .before .before .one .result) (c .before .before .to3 .given .1) in
+    let e = arrived (c .before .before .before .before .before .one .result) (c .before .before .before .before .before .one .ensures) (c .before .before .to3 .given .1) in
     halts (c .fault .result) (c .fault .ensures) ∙ sym (L .inv .4 ∙ turn-fault (a .z) (a .t .now) (a .depth) (L .inv .0) (L .at) (viewEnv (L .e)) e (L .inv .1))
 
 branch-is-public-requires : (t : ℕ) → branch-lts.Need-is-public-requires (
@@ -461,7 +461,7 @@ branch-add-block-2 : (t : ℕ) → branch-lts.Need-add-block-2 (
 branch-add-block-2 t c =
     let a = c .before .before .before .before .before .before .before .before .before .before .before .args in
     let p = c .before .before .before .before .before .before .before .before .before .before .before .pre .1 .0 in
-    let b = sym (c .before .before .before .before .before .block .ensures) ∙ seen (c .before .before .before .before .before .block .result) (c .before .before .to13 .given .1) in
+    let b = arrived (c .before .before .before .before .before .block .result) (c .before .before .before .before .before .block .ensures) (c .before .before .to13 .given .1) in
     let s = shut-near (a .z) (a .t .now) (a .depth - 1) (size (a .z) (a .t .now)) (a .at + 4) (viewEnv (c .before .before .before .before .before .before .guarded-env .result)) b in
     let u : c .before .before .to13 .given .0 .0 ≤ 200000 = omega (arith, s, p .short, p .near, p .shallow) in
     search needs
@@ -498,7 +498,7 @@ branch-block-requires-2 t c κs =
     let m = c .before .before .before .before .before .before .before .before .before .before .before .pre .0 in
     let p = c .before .before .before .before .before .before .before .before .before .before .before .pre .1 .0 in
     let l = c .before .before .before .before .before .before .before .before .before .before .before .pre .1 .1 in
-    let b = sym (c .before .before .before .before .before .block .ensures) ∙ seen (c .before .before .before .before .before .block .result) (c .before .before .to13 .given .1) in
+    let b = arrived (c .before .before .before .before .before .block .result) (c .before .before .before .before .before .block .ensures) (c .before .before .to13 .given .1) in
     let s = shut-near (a .z) (a .t .now) (a .depth - 1) (size (a .z) (a .t .now)) (a .at + 4) (viewEnv (c .before .before .before .before .before .before .guarded-env .result)) b in
     (omega arith, (moved p (omega (arith, s, p .short, p .shallow)) (omega (arith, p .shallow)), guarded-fit (a .z) (viewEnv (a .e)) (a .register) false (c .before .before .before .before .before .before .before .before .before .before .before .pre .1 .2) (c .guarded-env2 .ensures)))
 
@@ -518,7 +518,7 @@ branch-joined-requires t c κs =
     let a = c .before .before .before .before .before .before .before .before .before .before .before .before .args in
     let p = c .before .before .before .before .before .before .before .before .before .before .before .before .pre .1 .0 in
     let l = c .before .before .before .before .before .before .before .before .before .before .before .before .pre .1 .1 in
-    let b = sym (c .before .before .before .before .before .before .block .ensures) ∙ seen (c .before .before .before .before .before .before .block .result) (c .before .before .before .to13 .given .1) in
+    let b = arrived (c .before .before .before .before .before .before .block .result) (c .before .before .before .before .before .before .block .ensures) (c .before .before .before .to13 .given .1) in
     let s = shut-near (a .z) (a .t .now) (a .depth - 1) (size (a .z) (a .t .now)) (a .at + 4) (viewEnv (c .before .before .before .before .before .before .before .guarded-env .result)) b in
     let f = c .before .before .before .before .before .before .before .before .before .before .before .before .pre .1 .2 in
     let f1 = guarded-fit (a .z) (viewEnv (a .e)) (a .register) true f (c .before .before .before .before .before .before .before .guarded-env .ensures) in
@@ -545,7 +545,7 @@ branch-returns-3 : (t : ℕ) → branch-lts.Need-returns-3 (
 branch-returns-3 t c =
     let a = c .before .before .before .before .before .before .before .before .before .before .before .args in
     let h = sym (c .before .before .before .before .before .before .before .before .before .is-public .ensures) ∙ not-false (c .before .before .before .before .before .before .before .before .before .is-public .result) (c .before .before .before .before .before .before .before .before .if1 .left) in
-    let b = ap (blockWalk (a .z) (a .t .now) (a .depth - 1) (size (a .z) (a .t .now)) (a .at + 4)) (sym (c .before .before .before .before .before .before .guarded-env .ensures)) ∙ sym (c .before .before .before .before .before .block .ensures) ∙ seen (c .before .before .before .before .before .block .result) (c .before .before .to1 .given .1) in
+    let b = ap (blockWalk (a .z) (a .t .now) (a .depth - 1) (size (a .z) (a .t .now)) (a .at + 4)) (sym (c .before .before .before .before .before .before .guarded-env .ensures)) ∙ arrived (c .before .before .before .before .before .block .result) (c .before .before .before .before .before .block .ensures) (c .before .before .to1 .given .1) in
     halts (c .fault3 .result) (c .fault3 .ensures) ∙ if-is (a .z) (a .t .now) (a .depth) (a .at) (a .register) (viewEnv (a .e)) h (c .before .before .before .before .before .before .before .if2 .left) b
 
 branch-returns-4 : (t : ℕ) → branch-lts.Need-returns-4 (
@@ -563,7 +563,7 @@ branch-returns-4 : (t : ℕ) → branch-lts.Need-returns-4 (
 branch-returns-4 t c =
     let a = c .before .before .before .before .before .before .before .before .before .before .before .args in
     let h = sym (c .before .before .before .before .before .before .before .before .before .is-public .ensures) ∙ not-false (c .before .before .before .before .before .before .before .before .before .is-public .result) (c .before .before .before .before .before .before .before .before .if1 .left) in
-    let b = ap (blockWalk (a .z) (a .t .now) (a .depth - 1) (size (a .z) (a .t .now)) (a .at + 4)) (sym (c .before .before .before .before .before .before .guarded-env .ensures)) ∙ sym (c .before .before .before .before .before .block .ensures) ∙ seen (c .before .before .before .before .before .block .result) (c .before .before .to12 .given .1) in
+    let b = ap (blockWalk (a .z) (a .t .now) (a .depth - 1) (size (a .z) (a .t .now)) (a .at + 4)) (sym (c .before .before .before .before .before .before .guarded-env .ensures)) ∙ arrived (c .before .before .before .before .before .block .result) (c .before .before .before .before .before .block .ensures) (c .before .before .to12 .given .1) in
     halts (c .fault4 .result) (c .fault4 .ensures) ∙ if-is (a .z) (a .t .now) (a .depth) (a .at) (a .register) (viewEnv (a .e)) h (c .before .before .before .before .before .before .before .if2 .left) b
 
 branch-returns-5 : (t : ℕ) → branch-lts.Need-returns-5 (
@@ -581,7 +581,7 @@ branch-returns-5 : (t : ℕ) → branch-lts.Need-returns-5 (
 branch-returns-5 t c =
     let a = c .before .before .before .before .before .before .before .before .before .before .before .before .before .args in
     let h = sym (c .before .before .before .before .before .before .before .before .before .before .before .is-public .ensures) ∙ not-false (c .before .before .before .before .before .before .before .before .before .before .before .is-public .result) (c .before .before .before .before .before .before .before .before .before .before .if1 .left) in
-    let b = ap (blockWalk (a .z) (a .t .now) (a .depth - 1) (size (a .z) (a .t .now)) (a .at + 4)) (sym (c .before .before .before .before .before .before .before .before .guarded-env .ensures)) ∙ sym (c .before .before .before .before .before .before .before .block .ensures) ∙ seen (c .before .before .before .before .before .before .before .block .result) (c .before .before .before .before .to13 .given .1) in
+    let b = ap (blockWalk (a .z) (a .t .now) (a .depth - 1) (size (a .z) (a .t .now)) (a .at + 4)) (sym (c .before .before .before .before .before .before .before .before .guarded-env .ensures)) ∙ arrived (c .before .before .before .before .before .before .before .block .result) (c .before .before .before .before .before .before .before .block .ensures) (c .before .before .before .before .to13 .given .1) in
     let d = c .before .block2 .ensures ∙ ap (blockWalk (a .z) (a .t .now) (a .depth - 1) (size (a .z) (a .t .now)) _) (c .before .before .guarded-env2 .ensures) in
     c .joined .ensures ∙ ap (joinWalk (viewEnv (c .before .before .before .before .before .before .before .block .result .env))) d ∙ if-is (a .z) (a .t .now) (a .depth) (a .at) (a .register) (viewEnv (a .e)) h (c .before .before .before .before .before .before .before .before .before .if2 .left) b
 
@@ -684,7 +684,7 @@ one-simple-requires t c κs =
     let e = sym (c .before .before .before .before .before .before .decode .ensures) ∙ c .before .before .before .before .d2 .given .1 in
     let g = good (a .z) (a .t .now) (a .at) e in
     let p = c .before .before .before .before .before .before .before .before .pre .1 in
-    (p .0 .small, subst (Fits (a .z .registers) (a .z .arrays) (a .z .functions)) (c .before .r .given .1) (g .fits), no-threes _ _ _ (p .1))
+    (p .0 .small, subst (Fits (a .z .registers) (a .z .arrays)) (c .before .r .given .1) (g .fits), no-threes _ _ _ (p .1))
 
 one-enum-known-r-2 : (t : ℕ) → one-lts.Need-enum-known-r-2 (
   decode-reads.Asked,
@@ -720,7 +720,7 @@ one-call-requires t c κs =
     let a = c .before .before .before .before .before .before .before .before .args in
     let p = c .before .before .before .before .before .before .before .before .pre .1 in
     let e = sym (c .before .before .before .before .before .before .decode .ensures) ∙ c .before .before .before .before .d2 .given .1 in
-    let l = subst (Fits (a .z .registers) (a .z .arrays) (a .z .functions)) (c .before .r2 .given .1) (good (a .z) (a .t .now) (a .at) e .fits) in
+    let l = subst (Keeps (a .z .registers) (a .z .arrays) (a .z .functions)) (c .before .r2 .given .1) (good (a .z) (a .t .now) (a .at) e .keeps) in
     (p .0 .signed _ l, p .1)
 
 one-enum-known-r-3 : (t : ℕ) → one-lts.Need-enum-known-r-3 (
@@ -861,8 +861,8 @@ one-repeat-requires t c κs =
     let e = sym (c .before .before .before .before .before .before .decode .ensures) ∙ c .before .before .before .before .d2 .given .1 in
     let g = good (a .z) (a .t .now) (a .at) e in
     let l = ap lengthOf (c .before .r5 .given .1) in
-    let f = subst (Fits (a .z .registers) (a .z .arrays) (a .z .functions)) (c .before .r5 .given .1) (g .fits) in
-    (omega arith, (c .before .before .before .before .before .before .before .before .pre .1 .0, omega (arith, l, g .next, g .whole), c .before .before .before .before .before .before .before .before .pre .1 .1, packed-whole _ _ _ (f .1)))
+    let k = subst (Keeps (a .z .registers) (a .z .arrays) (a .z .functions)) (c .before .r5 .given .1) (g .keeps) in
+    (omega arith, (c .before .before .before .before .before .before .before .before .pre .1 .0, omega (arith, l, g .next, g .whole), c .before .before .before .before .before .before .before .before .pre .1 .1, packed-whole _ _ _ k))
 
 one-enum-known-r-6 : (t : ℕ) → one-lts.Need-enum-known-r-6 (
   decode-reads.Asked,
@@ -1109,9 +1109,9 @@ one-returns-9 t c =
     let r = record-got (a .z) (a .t .now) (a .at) e ∙ c .before .enum-told2 .given .1 in
     c .shut5 .ensures ∙ record-is (a .z) (a .t .now) (a .depth) (a .at) (viewEnv (a .e)) r
 
-repeat-unpack-requires : (t : ℕ) → repeat-lts.Need-unpack-requires (
-  unpack-reads.Asked,
-  unpack-reads.Learnt,
+repeat-env-of-requires : (t : ℕ) → repeat-lts.Need-env-of-requires (
+  env-of-reads.Asked,
+  env-of-reads.Learnt,
   env-within-reads.Asked,
   env-within-reads.Learnt,
   fault-reads.Asked,
@@ -1125,11 +1125,11 @@ repeat-unpack-requires : (t : ℕ) → repeat-lts.Need-unpack-requires (
   back-reads.Asked,
   back-reads.Learnt,
 ) (repeat-at t) repeat.Post
-repeat-unpack-requires t c κs = search needs
+repeat-env-of-requires t c κs = search needs
 
 repeat-env-within-requires : (t : ℕ) → repeat-lts.Need-env-within-requires (
-  unpack-reads.Asked,
-  unpack-reads.Learnt,
+  env-of-reads.Asked,
+  env-of-reads.Learnt,
   env-within-reads.Asked,
   env-within-reads.Learnt,
   fault-reads.Asked,
@@ -1146,8 +1146,8 @@ repeat-env-within-requires : (t : ℕ) → repeat-lts.Need-env-within-requires (
 repeat-env-within-requires t c κs = search needs
 
 repeat-fault-requires : (t : ℕ) → repeat-lts.Need-fault-requires (
-  unpack-reads.Asked,
-  unpack-reads.Learnt,
+  env-of-reads.Asked,
+  env-of-reads.Learnt,
   env-within-reads.Asked,
   env-within-reads.Learnt,
   fault-reads.Asked,
@@ -1164,8 +1164,8 @@ repeat-fault-requires : (t : ℕ) → repeat-lts.Need-fault-requires (
 repeat-fault-requires t c κs = search needs
 
 repeat-returns : (t : ℕ) → repeat-lts.Need-returns (
-  unpack-reads.Asked,
-  unpack-reads.Learnt,
+  env-of-reads.Asked,
+  env-of-reads.Learnt,
   env-within-reads.Asked,
   env-within-reads.Learnt,
   fault-reads.Asked,
@@ -1182,12 +1182,12 @@ repeat-returns : (t : ℕ) → repeat-lts.Need-returns (
 repeat-returns t c =
     let a = c .before .before .before .before .before .args in
     let p = c .before .before .before .before .before .pre .1 in
-    let w = within-packed (a .z) (viewEnv (a .e)) (a .packed) (p .2) (p .3) (c .before .before .env-within .ensures) (c .before .before .before .unpack .ensures) (not-true (c .before .before .env-within .result) (c .before .if1 .taken)) in
+    let w = within-packed (a .z) (viewEnv (a .e)) (a .packed) (p .2) (p .3) (c .before .before .env-within .ensures) (c .before .before .before .env-of .ensures) (not-true (c .before .before .env-within .result) (c .before .if1 .taken)) in
     halts (c .fault .result) (c .fault .ensures) ∙ while-out (a .z) (a .t .now) (a .depth) (a .at) (a .register) (a .packed) (viewEnv (a .e)) w
 
 repeat-is-public-requires : (t : ℕ) → repeat-lts.Need-is-public-requires (
-  unpack-reads.Asked,
-  unpack-reads.Learnt,
+  env-of-reads.Asked,
+  env-of-reads.Learnt,
   env-within-reads.Asked,
   env-within-reads.Learnt,
   fault-reads.Asked,
@@ -1204,8 +1204,8 @@ repeat-is-public-requires : (t : ℕ) → repeat-lts.Need-is-public-requires (
 repeat-is-public-requires t c κs = search needs
 
 repeat-fault-requires-2 : (t : ℕ) → repeat-lts.Need-fault-requires-2 (
-  unpack-reads.Asked,
-  unpack-reads.Learnt,
+  env-of-reads.Asked,
+  env-of-reads.Learnt,
   env-within-reads.Asked,
   env-within-reads.Learnt,
   fault-reads.Asked,
@@ -1222,8 +1222,8 @@ repeat-fault-requires-2 : (t : ℕ) → repeat-lts.Need-fault-requires-2 (
 repeat-fault-requires-2 t c κs = search needs
 
 repeat-returns-2 : (t : ℕ) → repeat-lts.Need-returns-2 (
-  unpack-reads.Asked,
-  unpack-reads.Learnt,
+  env-of-reads.Asked,
+  env-of-reads.Learnt,
   env-within-reads.Asked,
   env-within-reads.Learnt,
   fault-reads.Asked,
@@ -1240,13 +1240,13 @@ repeat-returns-2 : (t : ℕ) → repeat-lts.Need-returns-2 (
 repeat-returns-2 t c =
     let a = c .before .before .before .before .before .before .before .args in
     let p = c .before .before .before .before .before .before .before .pre .1 in
-    let w = within-packed (a .z) (viewEnv (a .e)) (a .packed) (p .2) (p .3) (c .before .before .before .before .env-within .ensures) (c .before .before .before .before .before .unpack .ensures) (not-false (c .before .before .before .before .env-within .result) (c .before .before .before .if1 .left)) in
-    let h = ap (λ (E : Environment). eqb (E .regs (a .register)) 0) (sym (c .before .before .before .before .before .unpack .ensures)) ∙ sym (c .before .before .is-public .ensures) ∙ not-true (c .before .before .is-public .result) (c .before .if2 .taken) in
+    let w = within-packed (a .z) (viewEnv (a .e)) (a .packed) (p .2) (p .3) (c .before .before .before .before .env-within .ensures) (c .before .before .before .before .before .env-of .ensures) (not-false (c .before .before .before .before .env-within .result) (c .before .before .before .if1 .left)) in
+    let h = ap (λ (E : Environment). eqb (E .regs (a .register)) 0) (sym (c .before .before .before .before .before .env-of .ensures)) ∙ sym (c .before .before .is-public .ensures) ∙ not-true (c .before .before .is-public .result) (c .before .if2 .taken) in
     halts (c .fault2 .result) (c .fault2 .ensures) ∙ while-private (a .z) (a .t .now) (a .depth) (a .at) (a .register) (a .packed) (viewEnv (a .e)) w h
 
 repeat-fault-requires-3 : (t : ℕ) → repeat-lts.Need-fault-requires-3 (
-  unpack-reads.Asked,
-  unpack-reads.Learnt,
+  env-of-reads.Asked,
+  env-of-reads.Learnt,
   env-within-reads.Asked,
   env-within-reads.Learnt,
   fault-reads.Asked,
@@ -1263,8 +1263,8 @@ repeat-fault-requires-3 : (t : ℕ) → repeat-lts.Need-fault-requires-3 (
 repeat-fault-requires-3 t c κs = search needs
 
 repeat-returns-3 : (t : ℕ) → repeat-lts.Need-returns-3 (
-  unpack-reads.Asked,
-  unpack-reads.Learnt,
+  env-of-reads.Asked,
+  env-of-reads.Learnt,
   env-within-reads.Asked,
   env-within-reads.Learnt,
   fault-reads.Asked,
@@ -1281,13 +1281,13 @@ repeat-returns-3 : (t : ℕ) → repeat-lts.Need-returns-3 (
 repeat-returns-3 t c =
     let a = c .before .before .before .before .before .before .before .before .args in
     let p = c .before .before .before .before .before .before .before .before .pre .1 in
-    let w = within-packed (a .z) (viewEnv (a .e)) (a .packed) (p .2) (p .3) (c .before .before .before .before .before .env-within .ensures) (c .before .before .before .before .before .before .unpack .ensures) (not-false (c .before .before .before .before .before .env-within .result) (c .before .before .before .before .if1 .left)) in
-    let h = ap (λ (E : Environment). eqb (E .regs (a .register)) 0) (sym (c .before .before .before .before .before .before .unpack .ensures)) ∙ sym (c .before .before .before .is-public .ensures) ∙ not-false (c .before .before .before .is-public .result) (c .before .before .if2 .left) in
+    let w = within-packed (a .z) (viewEnv (a .e)) (a .packed) (p .2) (p .3) (c .before .before .before .before .before .env-within .ensures) (c .before .before .before .before .before .before .env-of .ensures) (not-false (c .before .before .before .before .before .env-within .result) (c .before .before .before .before .if1 .left)) in
+    let h = ap (λ (E : Environment). eqb (E .regs (a .register)) 0) (sym (c .before .before .before .before .before .before .env-of .ensures)) ∙ sym (c .before .before .before .is-public .ensures) ∙ not-false (c .before .before .before .is-public .result) (c .before .before .if2 .left) in
     halts (c .fault3 .result) (c .fault3 .ensures) ∙ while-deep (a .z) (a .t .now) (a .depth) (a .at) (a .register) (a .packed) (viewEnv (a .e)) w h (c .before .if3 .taken)
 
 repeat-guarded-env-requires : (t : ℕ) → repeat-lts.Need-guarded-env-requires (
-  unpack-reads.Asked,
-  unpack-reads.Learnt,
+  env-of-reads.Asked,
+  env-of-reads.Learnt,
   env-within-reads.Asked,
   env-within-reads.Learnt,
   fault-reads.Asked,
@@ -1304,8 +1304,8 @@ repeat-guarded-env-requires : (t : ℕ) → repeat-lts.Need-guarded-env-requires
 repeat-guarded-env-requires t c κs = search needs
 
 repeat-add-block : (t : ℕ) → repeat-lts.Need-add-block (
-  unpack-reads.Asked,
-  unpack-reads.Learnt,
+  env-of-reads.Asked,
+  env-of-reads.Learnt,
   env-within-reads.Asked,
   env-within-reads.Learnt,
   fault-reads.Asked,
@@ -1324,8 +1324,8 @@ repeat-add-block t c =
     search needs
 
 repeat-sub-block : (t : ℕ) → repeat-lts.Need-sub-block (
-  unpack-reads.Asked,
-  unpack-reads.Learnt,
+  env-of-reads.Asked,
+  env-of-reads.Learnt,
   env-within-reads.Asked,
   env-within-reads.Learnt,
   fault-reads.Asked,
@@ -1342,8 +1342,8 @@ repeat-sub-block : (t : ℕ) → repeat-lts.Need-sub-block (
 repeat-sub-block t c = search needs
 
 repeat-block-requires : (t : ℕ) → repeat-lts.Need-block-requires (
-  unpack-reads.Asked,
-  unpack-reads.Learnt,
+  env-of-reads.Asked,
+  env-of-reads.Learnt,
   env-within-reads.Asked,
   env-within-reads.Learnt,
   fault-reads.Asked,
@@ -1363,12 +1363,12 @@ repeat-block-requires t c κs =
     let p = c .before .before .before .before .before .before .before .before .pre .1 .0 in
     let l = c .before .before .before .before .before .before .before .before .pre .1 .1 in
     let a = c .before .before .before .before .before .before .before .before .args in
-    let g = c .guarded-env .ensures ∙ ap (λ (E : Environment). guarded E (a .register) true) (c .before .before .before .before .before .before .unpack .ensures) in
+    let g = c .guarded-env .ensures ∙ ap (λ (E : Environment). guarded E (a .register) true) (c .before .before .before .before .before .before .env-of .ensures) in
     (omega arith, (moved p (omega (arith, p .short)) (omega (arith, p .shallow)), guarded-fit (a .z) (envOf (a .packed)) (a .register) true (c .before .before .before .before .before .before .before .before .pre .1 .3) g))
 
 repeat-back-requires : (t : ℕ) → repeat-lts.Need-back-requires (
-  unpack-reads.Asked,
-  unpack-reads.Learnt,
+  env-of-reads.Asked,
+  env-of-reads.Learnt,
   env-within-reads.Asked,
   env-within-reads.Learnt,
   fault-reads.Asked,
@@ -1386,14 +1386,11 @@ repeat-back-requires t c κs =
     let a = c .before .before .before .before .before .before .before .before .before .args in
     let p = c .before .before .before .before .before .before .before .before .before .pre .1 .0 in
     let l = c .before .before .before .before .before .before .before .before .before .pre .1 .1 in
-    let k = c .before .before .before .before .before .before .before .before .before .pre .1 .3 in
-    let g = c .before .guarded-env .ensures ∙ ap (λ (E : Environment). guarded E (a .register) true) (c .before .before .before .before .before .before .before .unpack .ensures) in
-    let w = walk-fit (a .z) (a .t .now) p _ _ _ _ (c .block .result) (guarded-fit (a .z) (envOf (a .packed)) (a .register) true k g) (c .block .ensures) in
-    (block-close (a .z) (a .t .now) (a .depth - 1) (size (a .z) (a .t .now)) (a .at + 11) (viewEnv (c .before .guarded-env .result)) (c .block .result) (p .short) (omega (arith, p .short)) (omega (arith, p .shallow)) (c .block .ensures), w, k)
+    block-close (a .z) (a .t .now) (a .depth - 1) (size (a .z) (a .t .now)) (a .at + 11) (viewEnv (c .before .guarded-env .result)) (c .block .result) (p .short) (omega (arith, p .short)) (omega (arith, p .shallow)) (c .block .ensures)
 
 repeat-returns-4 : (t : ℕ) → repeat-lts.Need-returns-4 (
-  unpack-reads.Asked,
-  unpack-reads.Learnt,
+  env-of-reads.Asked,
+  env-of-reads.Learnt,
   env-within-reads.Asked,
   env-within-reads.Learnt,
   fault-reads.Asked,
@@ -1410,10 +1407,12 @@ repeat-returns-4 : (t : ℕ) → repeat-lts.Need-returns-4 (
 repeat-returns-4 t c =
     let a = c .before .before .before .before .before .before .before .before .before .before .args in
     let p = c .before .before .before .before .before .before .before .before .before .before .pre .1 in
-    let w = within-packed (a .z) (viewEnv (a .e)) (a .packed) (p .2) (p .3) (c .before .before .before .before .before .before .before .env-within .ensures) (c .before .before .before .before .before .before .before .before .unpack .ensures) (not-false (c .before .before .before .before .before .before .before .env-within .result) (c .before .before .before .before .before .before .if1 .left)) in
-    let h = ap (λ (E : Environment). eqb (E .regs (a .register)) 0) (sym (c .before .before .before .before .before .before .before .before .unpack .ensures)) ∙ sym (c .before .before .before .before .before .is-public .ensures) ∙ not-false (c .before .before .before .before .before .is-public .result) (c .before .before .before .before .if2 .left) in
-    let d = c .before .block .ensures ∙ ap (blockWalk (a .z) (a .t .now) (a .depth - 1) (size (a .z) (a .t .now)) (a .at + 11)) (c .before .before .guarded-env .ensures ∙ ap (λ (E : Environment). guarded E (a .register) true) (c .before .before .before .before .before .before .before .before .unpack .ensures)) in
-    c .back .ensures ∙ ap (backWalk (a .z) (a .register) (a .packed)) d ∙ while-is (a .z) (a .t .now) (a .depth) (a .at) (a .register) (a .packed) (viewEnv (a .e)) w h (c .before .before .before .if3 .left)
+    let w = within-packed (a .z) (viewEnv (a .e)) (a .packed) (p .2) (p .3) (c .before .before .before .before .before .before .before .env-within .ensures) (c .before .before .before .before .before .before .before .before .env-of .ensures) (not-false (c .before .before .before .before .before .before .before .env-within .result) (c .before .before .before .before .before .before .if1 .left)) in
+    let h = ap (λ (E : Environment). eqb (E .regs (a .register)) 0) (sym (c .before .before .before .before .before .before .before .before .env-of .ensures)) ∙ sym (c .before .before .before .before .before .is-public .ensures) ∙ not-false (c .before .before .before .before .before .is-public .result) (c .before .before .before .before .if2 .left) in
+    let g = c .before .before .guarded-env .ensures ∙ ap (λ (E : Environment). guarded E (a .register) true) (c .before .before .before .before .before .before .before .before .env-of .ensures) in
+    let d = c .before .block .ensures ∙ ap (blockWalk (a .z) (a .t .now) (a .depth - 1) (size (a .z) (a .t .now)) (a .at + 11)) g in
+    let f = walk-fit (a .z) (a .t .now) (p .0) _ _ _ _ (c .before .block .result) (guarded-fit (a .z) (envOf (a .packed)) (a .register) true (p .3) g) (c .before .block .ensures) in
+    c .back .ensures (a .z) f (p .3) ∙ ap (backWalk (a .z) (a .register) (a .packed)) d ∙ while-is (a .z) (a .t .now) (a .depth) (a .at) (a .register) (a .packed) (viewEnv (a .e)) w h (c .before .before .before .if3 .left)
 
 pub +block+branch+one+repeat-spec : {M : Type 1} → statement M
 +block+branch+one+repeat-spec = close μ-block μ-branch μ-one μ-repeat (λ t. block-lts.spec (
@@ -1521,8 +1520,8 @@ pub +block+branch+one+repeat-spec : {M : Type 1} → statement M
     (one-returns-8 t)
     (one-returns-9 t))
     λ t. repeat-lts.spec (
-      unpack-reads.Asked,
-      unpack-reads.Learnt,
+      env-of-reads.Asked,
+      env-of-reads.Learnt,
       env-within-reads.Asked,
       env-within-reads.Learnt,
       fault-reads.Asked,
@@ -1538,7 +1537,7 @@ pub +block+branch+one+repeat-spec : {M : Type 1} → statement M
     )
     (repeat-at t)
     repeat.Post
-    (repeat-unpack-requires t)
+    (repeat-env-of-requires t)
     (repeat-env-within-requires t)
     (repeat-fault-requires t)
     (repeat-returns t)

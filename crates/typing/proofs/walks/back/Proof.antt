@@ -13,7 +13,7 @@ use Rattle.typing.proofs.walks.back.Reads as reads
 use Rattle.typing.proofs.walks.back.Lts as lts
 use Rattle.typing.proofs.environments.env_within.Reads as env-within-reads
 use Rattle.typing.proofs.environments.guarded_env.Reads as guarded-env-reads
-use Rattle.typing.proofs.environments.unpack.Reads as unpack-reads
+use Rattle.typing.proofs.environments.env_of.Reads as env-of-reads
 use Rattle.typing.proofs.walks.fault.Reads as fault-reads
 
 enum-known-to : tie.Need-enum-known-to
@@ -31,8 +31,8 @@ fault-requires-2 c κs = search needs
 enum-known-to-3 : tie.Need-enum-known-to-3
 enum-known-to-3 c = search needs
 
-unpack-requires : tie.Need-unpack-requires
-unpack-requires c κs = search needs
+env-of-requires : tie.Need-env-of-requires
+env-of-requires c κs = search needs
 
 env-within-requires : tie.Need-env-within-requires
 env-within-requires c κs = search needs
@@ -41,39 +41,37 @@ fault-requires-3 : tie.Need-fault-requires-3
 fault-requires-3 c κs = search needs
 
 returns : tie.Need-returns
-returns c =
+returns c = λ z f k.
     let a = c .before .before .before .before .before .before .before .before .args in
-    let p = c .before .before .before .before .before .before .before .before .pre in
     let e = viewEnv (a .body .env) in
-    let w = within-packed (a .z) e (a .packed) (at-shut (Fit (a .z)) (a .body) (c .before .before .before .before .before .to3 .given .1) (p .1)) (p .2) (c .before .before .env-within .ensures) (c .before .before .before .unpack .ensures) (not-true (c .before .before .env-within .result) (c .before .if1 .taken)) in
-    halts (c .fault3 .result) (c .fault3 .ensures) ∙ back-out (a .z) (a .register) (a .packed) _ e w ∙ sym (ap (backWalk (a .z) (a .register) (a .packed)) (seen (a .body) (c .before .before .before .before .before .to3 .given .1)))
+    let w = within-packed z e (a .packed) (at-shut (Fit z) (a .body) (c .before .before .before .before .before .to3 .given .1) f) k (c .before .before .env-within .ensures) (c .before .before .before .env-of .ensures) (not-true (c .before .before .env-within .result) (c .before .if1 .taken)) in
+    halts (c .fault3 .result) (c .fault3 .ensures) ∙ back-out z (a .register) (a .packed) _ e w ∙ sym (ap (backWalk z (a .register) (a .packed)) (seen (a .body) (c .before .before .before .before .before .to3 .given .1)))
 
 guarded-env-requires : tie.Need-guarded-env-requires
 guarded-env-requires c κs = search needs
 
-add-t16 : tie.Need-add-t16
-add-t16 c =
-    let h = subst Close (c .before .before .before .before .before .to3 .given .1) (c .before .before .before .before .before .before .before .before .pre .0) in
+add-t15 : tie.Need-add-t15
+add-t15 c =
+    let h = subst Close (c .before .before .before .before .before .to3 .given .1) (c .before .before .before .before .before .before .before .before .pre) in
     search needs
 
 returns-2 : tie.Need-returns-2
-returns-2 c =
+returns-2 c = λ z f k.
     let a = c .before .before .before .before .before .args in
-    halts (c .fault .result) (c .fault .ensures) ∙ sym (ap (backWalk (a .z) (a .register) (a .packed)) (seen (a .body) (c .before .before .to .given .1)))
+    halts (c .fault .result) (c .fault .ensures) ∙ sym (ap (backWalk z (a .register) (a .packed)) (seen (a .body) (c .before .before .to .given .1)))
 
 returns-3 : tie.Need-returns-3
-returns-3 c =
+returns-3 c = λ z f k.
     let a = c .before .before .before .before .before .args in
-    halts (c .fault2 .result) (c .fault2 .ensures) ∙ sym (ap (backWalk (a .z) (a .register) (a .packed)) (seen (a .body) (c .before .before .to2 .given .1)))
+    halts (c .fault2 .result) (c .fault2 .ensures) ∙ sym (ap (backWalk z (a .register) (a .packed)) (seen (a .body) (c .before .before .to2 .given .1)))
 
 returns-4 : tie.Need-returns-4
-returns-4 c =
+returns-4 c = λ z f k.
     let a = c .before .before .before .before .before .before .before .before .args in
-    let p = c .before .before .before .before .before .before .before .before .pre in
     let e = viewEnv (a .body .env) in
-    let w = within-packed (a .z) e (a .packed) (at-shut (Fit (a .z)) (a .body) (c .before .before .before .before .before .to3 .given .1) (p .1)) (p .2) (c .before .before .env-within .ensures) (c .before .before .before .unpack .ensures) (not-false (c .before .before .env-within .result) (c .before .if1 .left)) in
-    let g = c .guarded-env .ensures ∙ ap (λ (E : Environment). guarded E (a .register) false) (c .before .before .before .unpack .ensures) in
-    back-on (a .z) (a .register) (a .packed) _ e w g ∙ sym (ap (backWalk (a .z) (a .register) (a .packed)) (seen (a .body) (c .before .before .before .before .before .to3 .given .1)))
+    let w = within-packed z e (a .packed) (at-shut (Fit z) (a .body) (c .before .before .before .before .before .to3 .given .1) f) k (c .before .before .env-within .ensures) (c .before .before .before .env-of .ensures) (not-false (c .before .before .env-within .result) (c .before .if1 .left)) in
+    let g = c .guarded-env .ensures ∙ ap (λ (E : Environment). guarded E (a .register) false) (c .before .before .before .env-of .ensures) in
+    back-on z (a .register) (a .packed) _ e w g ∙ sym (ap (backWalk z (a .register) (a .packed)) (seen (a .body) (c .before .before .before .before .before .to3 .given .1)))
 
 pub back-spec : {M : Type 1} → statement M
 back-spec =
@@ -84,12 +82,12 @@ back-spec =
     enum-known-to-2
     fault-requires-2
     enum-known-to-3
-    unpack-requires
+    env-of-requires
     env-within-requires
     fault-requires-3
     returns
     guarded-env-requires
-    add-t16
+    add-t15
     returns-2
     returns-3
     returns-4)

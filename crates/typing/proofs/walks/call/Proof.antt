@@ -14,13 +14,13 @@ use Rattle.layout.proofs.in_of.Reads as in-of-reads
 use Rattle.layout.proofs.out_of.Reads as out-of-reads
 use Rattle.typing.proofs.environments.env_within.Reads as env-within-reads
 use Rattle.typing.proofs.environments.returned_env.Reads as returned-env-reads
-use Rattle.typing.proofs.environments.unpack.Reads as unpack-reads
+use Rattle.typing.proofs.environments.env_of.Reads as env-of-reads
 
 in-of-requires : tie.Need-in-of-requires
 in-of-requires c κs = search needs
 
-unpack-requires : tie.Need-unpack-requires
-unpack-requires c κs = search needs
+env-of-requires : tie.Need-env-of-requires
+env-of-requires c κs = search needs
 
 env-within-requires : tie.Need-env-within-requires
 env-within-requires c κs = search needs
@@ -28,8 +28,8 @@ env-within-requires c κs = search needs
 out-of-requires : tie.Need-out-of-requires
 out-of-requires c κs = search needs
 
-unpack-requires-2 : tie.Need-unpack-requires-2
-unpack-requires-2 c κs = search needs
+env-of-requires-2 : tie.Need-env-of-requires-2
+env-of-requires-2 c κs = search needs
 
 returned-env-requires : tie.Need-returned-env-requires
 returned-env-requires c κs = search needs
@@ -38,15 +38,15 @@ returns : tie.Need-returns
 returns c =
     let a = c .before .before .before .before .before .before .before .before .args in
     let p = c .before .before .before .before .before .before .before .before .pre in
-    let w = within-packed (a .z) (viewEnv (a .e)) (inOf (a .z) (a .t .now) (a .function)) (p .1) (p .0 .0) (c .before .before .before .before .env-within .ensures) (c .before .before .before .before .before .unpack .ensures ∙ ap envOf (c .before .before .before .before .before .before .in-of .ensures)) (c .before .before .before .if1 .taken) in
-    let o = c .returned-env .ensures ∙ ap (λ (E : Environment). returned E (a .mark) (viewEnv (a .e))) (c .before .unpack2 .ensures ∙ ap envOf (c .before .before .out-of .ensures)) in
+    let w = within-packed (a .z) (viewEnv (a .e)) (inOf (a .z) (a .t .now) (a .function)) (p .1) (p .0 .0) (c .before .before .before .before .env-within .ensures) (c .before .before .before .before .before .env-of .ensures ∙ ap envOf (c .before .before .before .before .before .before .in-of .ensures)) (c .before .before .before .if1 .taken) in
+    let o = c .returned-env .ensures ∙ ap (λ (E : Environment). returned E (a .mark) (viewEnv (a .e))) (c .before .env-of2 .ensures ∙ ap envOf (c .before .before .out-of .ensures)) in
     call-on (a .z) (a .t .now) (a .function) (a .mark) (a .at) (a .next) (viewEnv (a .e)) w o
 
 returns-2 : tie.Need-returns-2
 returns-2 c =
     let a = c .before .before .before .before .before .args in
     let p = c .before .before .before .before .before .pre in
-    let w = within-packed (a .z) (viewEnv (a .e)) (inOf (a .z) (a .t .now) (a .function)) (p .1) (p .0 .0) (c .before .env-within .ensures) (c .before .before .unpack .ensures ∙ ap envOf (c .before .before .before .in-of .ensures)) (c .if1 .left) in
+    let w = within-packed (a .z) (viewEnv (a .e)) (inOf (a .z) (a .t .now) (a .function)) (p .1) (p .0 .0) (c .before .env-within .ensures) (c .before .before .env-of .ensures ∙ ap envOf (c .before .before .before .in-of .ensures)) (c .if1 .left) in
     call-out (a .z) (a .t .now) (a .function) (a .mark) (a .at) (a .next) (viewEnv (a .e)) w
 
 pub call-spec : {M : Type 1} → statement M
@@ -54,10 +54,10 @@ call-spec =
     tie.close
     (tie.spec
     in-of-requires
-    unpack-requires
+    env-of-requires
     env-within-requires
     out-of-requires
-    unpack-requires-2
+    env-of-requires-2
     returned-env-requires
     returns
     returns-2)

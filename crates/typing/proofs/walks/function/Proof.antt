@@ -15,7 +15,7 @@ use Rattle.layout.proofs.in_of.Reads as in-of-reads
 use Rattle.layout.proofs.out_of.Reads as out-of-reads
 use Rattle.layout.proofs.start_of.Reads as start-of-reads
 use Rattle.typing.proofs.environments.env_within.Reads as env-within-reads
-use Rattle.typing.proofs.environments.unpack.Reads as unpack-reads
+use Rattle.typing.proofs.environments.env_of.Reads as env-of-reads
 use Rattle.typing.proofs.walks.block.Reads as block-reads
 
 start-of-requires : tie.Need-start-of-requires
@@ -24,15 +24,15 @@ start-of-requires c κs = search needs
 in-of-requires : tie.Need-in-of-requires
 in-of-requires c κs = search needs
 
-unpack-requires : tie.Need-unpack-requires
-unpack-requires c κs = search needs
+env-of-requires : tie.Need-env-of-requires
+env-of-requires c κs = search needs
 
 block-requires : tie.Need-block-requires
 block-requires c κs =
     let a = c .before .before .before .before .args in
     let p = c .before .before .before .before .pre in
     let s = c .before .before .start-of .ensures .1 in
-    (moved (p .0) (omega arith) (omega arith), subst (Fit (a .z)) (sym (c .unpack .ensures ∙ ap envOf (c .before .in-of .ensures))) (p .0 .signed (a .g) (p .1) .0))
+    (moved (p .0) (omega arith) (omega arith), subst (Fit (a .z)) (sym (c .env-of .ensures ∙ ap envOf (c .before .in-of .ensures))) (p .0 .signed (a .g) (p .1) .0))
 
 enum-known-to : tie.Need-enum-known-to
 enum-known-to c = search needs
@@ -46,8 +46,8 @@ enum-known-to-3 c = search needs
 out-of-requires : tie.Need-out-of-requires
 out-of-requires c κs = search needs
 
-unpack-requires-2 : tie.Need-unpack-requires-2
-unpack-requires-2 c κs = search needs
+env-of-requires-2 : tie.Need-env-of-requires-2
+env-of-requires-2 c κs = search needs
 
 env-within-requires : tie.Need-env-within-requires
 env-within-requires c κs = search needs
@@ -57,31 +57,31 @@ returns c =
     let a = c .before .before .before .before .before .before .before .before .before .before .before .before .before .args in
     let p = c .before .before .before .before .before .before .before .before .before .before .before .before .before .pre in
     let e = viewEnv (c .before .before .before .before .before .before .before .before .block .result .env) in
-    let into = c .before .before .before .before .before .before .before .before .before .unpack .ensures ∙ ap envOf (c .before .before .before .before .before .before .before .before .before .before .in-of .ensures) in
+    let into = c .before .before .before .before .before .before .before .before .before .env-of .ensures ∙ ap envOf (c .before .before .before .before .before .before .before .before .before .before .in-of .ensures) in
     let f = walk-fit (a .z) (a .t .now) (p .0) 16 _ _ _ (c .before .before .before .before .before .before .before .before .block .result) (subst (Fit (a .z)) (sym into) (p .0 .signed (a .g) (p .1) .0)) (c .before .before .before .before .before .before .before .before .block .ensures) in
-    let w = within-packed (a .z) e (outOf (a .z) (a .t .now) (a .g)) (at-shut (Fit (a .z)) (c .before .before .before .before .before .before .before .before .block .result) (c .before .before .before .before .before .to3 .given .1) f) (p .0 .signed (a .g) (p .1) .1) (c .before .env-within .ensures) (c .before .before .unpack2 .ensures ∙ ap envOf (c .before .before .before .out-of .ensures)) (c .if1 .taken) in
-    let b = function-block (a .z) (a .t .now) (a .g) (c .before .before .before .before .before .before .before .before .before .before .before .start-of .ensures .0) (c .before .before .before .before .before .before .before .before .before .unpack .ensures ∙ ap envOf (c .before .before .before .before .before .before .before .before .before .before .in-of .ensures)) (c .before .before .before .before .before .before .before .before .block .ensures) (seen (c .before .before .before .before .before .before .before .before .block .result) (c .before .before .before .before .before .to3 .given .1)) in
+    let w = within-packed (a .z) e (outOf (a .z) (a .t .now) (a .g)) (at-shut (Fit (a .z)) (c .before .before .before .before .before .before .before .before .block .result) (c .before .before .before .before .before .to3 .given .1) f) (p .0 .signed (a .g) (p .1) .1) (c .before .env-within .ensures) (c .before .before .env-of2 .ensures ∙ ap envOf (c .before .before .before .out-of .ensures)) (c .if1 .taken) in
+    let b = function-block (a .z) (a .t .now) (a .g) (c .before .before .before .before .before .before .before .before .before .before .before .start-of .ensures .0) into (c .before .before .before .before .before .before .before .before .block .ensures) (seen (c .before .before .before .before .before .before .before .before .block .result) (c .before .before .before .before .before .to3 .given .1)) in
     ap bare (function-on (a .z) (a .t .now) (a .g) (c .before .before .before .before .before .to3 .given .0 .0) e w b)
 
 returns-2 : tie.Need-returns-2
 returns-2 c =
     let a = c .before .before .before .before .before .before .before .before .before .args in
-    ap bare (function-is (a .z) (a .t .now) (a .g) (function-block (a .z) (a .t .now) (a .g) (c .before .before .before .before .before .before .before .start-of .ensures .0) (c .before .before .before .before .before .unpack .ensures ∙ ap envOf (c .before .before .before .before .before .before .in-of .ensures)) (c .before .before .before .before .block .ensures) (seen (c .before .before .before .before .block .result) (c .before .to .given .1))))
+    ap bare (function-is (a .z) (a .t .now) (a .g) (function-block (a .z) (a .t .now) (a .g) (c .before .before .before .before .before .before .before .start-of .ensures .0) (c .before .before .before .before .before .env-of .ensures ∙ ap envOf (c .before .before .before .before .before .before .in-of .ensures)) (c .before .before .before .before .block .ensures) (seen (c .before .before .before .before .block .result) (c .before .to .given .1))))
 
 returns-3 : tie.Need-returns-3
 returns-3 c =
     let a = c .before .before .before .before .before .before .before .before .before .args in
-    ap bare (function-is (a .z) (a .t .now) (a .g) (function-block (a .z) (a .t .now) (a .g) (c .before .before .before .before .before .before .before .start-of .ensures .0) (c .before .before .before .before .before .unpack .ensures ∙ ap envOf (c .before .before .before .before .before .before .in-of .ensures)) (c .before .before .before .before .block .ensures) (seen (c .before .before .before .before .block .result) (c .before .to2 .given .1))))
+    ap bare (function-is (a .z) (a .t .now) (a .g) (function-block (a .z) (a .t .now) (a .g) (c .before .before .before .before .before .before .before .start-of .ensures .0) (c .before .before .before .before .before .env-of .ensures ∙ ap envOf (c .before .before .before .before .before .before .in-of .ensures)) (c .before .before .before .before .block .ensures) (seen (c .before .before .before .before .block .result) (c .before .to2 .given .1))))
 
 returns-4 : tie.Need-returns-4
 returns-4 c =
     let a = c .before .before .before .before .before .before .before .before .before .before .before .before .before .args in
     let p = c .before .before .before .before .before .before .before .before .before .before .before .before .before .pre in
     let e = viewEnv (c .before .before .before .before .before .before .before .before .block .result .env) in
-    let into = c .before .before .before .before .before .before .before .before .before .unpack .ensures ∙ ap envOf (c .before .before .before .before .before .before .before .before .before .before .in-of .ensures) in
+    let into = c .before .before .before .before .before .before .before .before .before .env-of .ensures ∙ ap envOf (c .before .before .before .before .before .before .before .before .before .before .in-of .ensures) in
     let f = walk-fit (a .z) (a .t .now) (p .0) 16 _ _ _ (c .before .before .before .before .before .before .before .before .block .result) (subst (Fit (a .z)) (sym into) (p .0 .signed (a .g) (p .1) .0)) (c .before .before .before .before .before .before .before .before .block .ensures) in
-    let w = within-packed (a .z) e (outOf (a .z) (a .t .now) (a .g)) (at-shut (Fit (a .z)) (c .before .before .before .before .before .before .before .before .block .result) (c .before .before .before .before .before .to3 .given .1) f) (p .0 .signed (a .g) (p .1) .1) (c .before .env-within .ensures) (c .before .before .unpack2 .ensures ∙ ap envOf (c .before .before .before .out-of .ensures)) (c .if1 .left) in
-    let b = function-block (a .z) (a .t .now) (a .g) (c .before .before .before .before .before .before .before .before .before .before .before .start-of .ensures .0) (c .before .before .before .before .before .before .before .before .before .unpack .ensures ∙ ap envOf (c .before .before .before .before .before .before .before .before .before .before .in-of .ensures)) (c .before .before .before .before .before .before .before .before .block .ensures) (seen (c .before .before .before .before .before .before .before .before .block .result) (c .before .before .before .before .before .to3 .given .1)) in
+    let w = within-packed (a .z) e (outOf (a .z) (a .t .now) (a .g)) (at-shut (Fit (a .z)) (c .before .before .before .before .before .before .before .before .block .result) (c .before .before .before .before .before .to3 .given .1) f) (p .0 .signed (a .g) (p .1) .1) (c .before .env-within .ensures) (c .before .before .env-of2 .ensures ∙ ap envOf (c .before .before .before .out-of .ensures)) (c .if1 .left) in
+    let b = function-block (a .z) (a .t .now) (a .g) (c .before .before .before .before .before .before .before .before .before .before .before .start-of .ensures .0) into (c .before .before .before .before .before .before .before .before .block .ensures) (seen (c .before .before .before .before .before .before .before .before .block .result) (c .before .before .before .before .before .to3 .given .1)) in
     ap bare (function-out (a .z) (a .t .now) (a .g) (c .before .before .before .before .before .to3 .given .0 .0) e w b)
 
 pub function-spec : {M : Type 1} → statement M
@@ -90,13 +90,13 @@ function-spec =
     (tie.spec
     start-of-requires
     in-of-requires
-    unpack-requires
+    env-of-requires
     block-requires
     enum-known-to
     enum-known-to-2
     enum-known-to-3
     out-of-requires
-    unpack-requires-2
+    env-of-requires-2
     env-within-requires
     returns
     returns-2
