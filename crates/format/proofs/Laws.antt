@@ -9,7 +9,6 @@ use lib.ListN.{length, List·getD-eq-default}
 use lib.Dec.{eqb}
 use Rattle.model.specs.Tests.{pick}
 use Rattle.model.specs.Packing.{levelsIn}
-use Rattle.model.specs.declared.Packed.{Packed}
 use Rattle.format.specs.Format.{byte, word16, word32, packedAt}
 
 -- past the end there are zeros

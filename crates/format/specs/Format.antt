@@ -1,7 +1,7 @@
 -- Document 01, "Table layout": one record of code, over the bytes of a table; and the words of its arrays, against which an index is tested.
 use Prim.Native.Nat.{ℕ, zero, suc, _+_, _-_, _*_}
 use mathlib.Core.List.{List, [], _∷_}
-use mathlib.Core.Bool.{Bool, true, false}
+use mathlib.Core.Bool.{Bool}
 use lib.ListN.{length, getD}
 use lib.Dec.{ltb, leb, eqb}
 use Rattle.model.specs.Tests.{pick, all}

@@ -5,7 +5,7 @@ use format::packed_in;
 use format::place_at;
 use model::Sizes;
 ghost use mathlib.Core.Path.{_≡_};
-ghost use Prim.Native.Nat.{_+_, _≤_};
+ghost use Prim.Native.Nat.{_+_};
 ghost use Rattle.format.specs.Head.{sizesAt, arrayAt, signatureAt, arraysAt, signaturesAt};
 
 // The sizes record: registers 1..16, arrays 0..8, functions 1..32.

@@ -7,7 +7,6 @@ use Rattle.typing.specs.declared.Verdict.{Verdict}
 use Rattle.typing.specs.declared.Verdict.the-variants.{Accepted, Refused}
 use Rattle.message.specs.declared.Part.{Part}
 use Rattle.message.specs.declared.Part.the-variants.{Table, List as Directives}
-use Rattle.machine.specs.declared.Stop.{Stop}
 use Rattle.machine.specs.declared.Outcome.{Outcome}
 use Rattle.machine.specs.declared.Outcome.the-variants.{Refused as Unrun, Stopped}
 use Rattle.machine.specs.Runs.{Ran, ran}

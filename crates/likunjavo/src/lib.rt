@@ -5,11 +5,10 @@ use message::Part;
 use typing::Verdict;
 ghost use mathlib.Core.Path.{_≡_};
 ghost use mathlib.Core.List.{[], _∷_};
-ghost use Prim.Native.Nat.{_<_};
 ghost use Rattle.typing.specs.Check.{checkAt};
 ghost use Rattle.message.specs.Shown.{partOf};
 ghost use Rattle.machine.specs.Runs.{runAt};
-ghost use Rattle.likunjavo.specs.Numbers.{verdictNumbers, partNumbers, outcomeNumbers, left, leftOf};
+ghost use Rattle.likunjavo.specs.Numbers.{verdictNumbers, partNumbers, left, leftOf};
 ghost use Rattle.model.specs.Tests.{pick};
 
 fn put_three(answer: &mut [u64; 3], a: u64, b: u64, c: u64)

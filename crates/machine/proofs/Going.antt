@@ -2,19 +2,15 @@
 -- run stands there is room on the stack.
 use Prim.Native.Nat.{ℕ, zero, suc, _+_, _-_, _<_, _≤_}
 use native.Mathlib.Omega.{arith}
-use native.Mathlib.Numerals.{add-one}
 use mathlib.Core.Path.{_≡_, refl, sym, ap, subst, _∙_}
 use mathlib.Core.Bool.{Bool, true, false}
 use mathlib.Core.List.{List, [], _∷_, _++_}
-use lib.ListN.{length, getD, set, length-set}
+use lib.ListN.{length, set, length-set}
 use lib.Seq.{sets}
-use lib.Dec.{leb}
 use borrow.Author.Tests.{lt-leb, le-leb}
-use Rattle.model.specs.Tests.{pick}
 use Rattle.model.specs.Table.{Table, entry}
-use Rattle.model.specs.Code.{Reads as Known}
 use Rattle.model.specs.Stands.{Stands, step-stands, stack-bound}
-use Rattle.model.specs.Machine.{Ctl, Data, Stepped, Stop, Went, stepOf, step, size, Final, final, observed, afterStep, ended, run, startCtl}
+use Rattle.model.specs.Machine.{Ctl, Data, Stepped, Stop, Went, step, size, Final, final, observed, afterStep, ended, run}
 use Rattle.model.specs.declared.Sizes.{Sizes}
 use Rattle.model.specs.declared.Directive.{Directive}
 use Rattle.model.specs.declared.Directive.the-variants.{Plain}
@@ -26,17 +22,15 @@ use Rattle.format.specs.Layout.{sizesOf, recordOf, returnOf, tableWith, tableOf
 use Rattle.reading.specs.Reading.{readAt}
 use Rattle.reading.specs.Known.{known}
 use Rattle.reading.specs.Limits.{read-limits}
-use Rattle.reading.specs.Linked.{touches}
 use Rattle.reading.specs.declared.Answer.the-variants.{Reads}
 use Rattle.machine.specs.declared.State.{State}
 use Rattle.machine.specs.declared.Turn.{Turn}
-use Rattle.machine.specs.declared.Told.{Told}
 use Rattle.machine.specs.declared.Told.the-variants.{Got, Bad}
 use Rattle.machine.specs.declared.Outcome.the-variants.{Stopped}
-use Rattle.machine.specs.Directives.{directiveAt, onTold, directivesFrom, bytesOf, allBytes}
+use Rattle.machine.specs.Directives.{directiveAt, directivesFrom, bytesOf, allBytes}
 use Rattle.machine.specs.States.{words, length-stack, ctlOf, dataOf}
-use Rattle.machine.specs.Runs.{Ran, ran, total, ranFrom}
-use Rattle.machine.specs.Turns.{Lent, Ready, ActMoves, TurnMoves, TurnHalts}
+use Rattle.machine.specs.Runs.{ran, total, ranFrom}
+use Rattle.machine.specs.Turns.{Lent, Ready, TurnMoves, TurnHalts}
 
 four : {A : Type 0} (f : List ℕ → ℕ → ℕ → ℕ → A) {o o′ : List ℕ} {p p′ q q′ k k′ : ℕ} → o ≡ o′ → p ≡ p′ → q ≡ q′ → k ≡ k′ → f o p q k ≡ f o′ p′ q′ k′
 four f a b c d = λ i. f (a i) (b i) (c i) (d i)

@@ -1,15 +1,15 @@
 -- What becomes of the stack: the state after a step has the stack that the plan says, and only a CALL makes it longer.
-use Prim.Native.Nat.{ℕ, zero, suc, _+_, _-_, _<_, _≤_}
+use Prim.Native.Nat.{ℕ, suc, _-_, _≤_}
 use native.Mathlib.Omega.{arith}
 use mathlib.Core.Path.{_≡_, refl, sym, ap, _∙_}
 use mathlib.Core.Bool.{Bool}
 use mathlib.Core.Option.{Option, none, some}
 use mathlib.Core.List.{List, [], _∷_}
-use lib.ListN.{length, set}
+use lib.ListN.{length}
 use lib.Dec.{eqb}
-use Rattle.model.specs.Tests.{pick, pick-ind}
+use Rattle.model.specs.Tests.{pick-ind}
 use Rattle.model.specs.Table.{Table}
-use Rattle.model.specs.Machine.{Ctl, Data, reg, Work, halt, did, Stepped, Stop, Went, plain, onward, pop, work, pass, fork, wrong, right, back, stepOf, step}
+use Rattle.model.specs.Machine.{Ctl, Data, reg, Work, halt, did, Stepped, Stop, Went, plain, onward, pop, work, fork, wrong, right, back, stepOf, step}
 use Rattle.model.specs.declared.Directive.{Directive}
 use Rattle.model.specs.declared.Directive.the-variants.{Plain, Branch, Stray, Back}
 use Rattle.model.specs.declared.Observation.the-variants.{Nothing}

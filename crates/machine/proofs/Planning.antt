@@ -34,7 +34,7 @@ use Rattle.format.specs.Format.{byte, word16, decodeAt}
 use Rattle.format.specs.Layout.{recordFrom, recordOf, tableWith}
 use Rattle.format.specs.declared.Decoded.{Decoded}
 use Rattle.format.specs.declared.Decoded.the-variants.{Got, Bad as Unread}
-use Rattle.machine.specs.States.{stackOf, ctlOf, ctlNext, applied, viewPlan, Lands, isPlain, tops, below, leaves}
+use Rattle.machine.specs.States.{stackOf, ctlNext, applied, viewPlan, Lands, isPlain, tops, below, leaves}
 use Rattle.machine.specs.declared.State.{State}
 use Rattle.machine.specs.declared.Effect.{Effect}
 use Rattle.machine.specs.declared.Next.{Next}

@@ -1,19 +1,16 @@
 -- What act and one_turn show of their answers, over plain values: one law for each way that they return.
-use Prim.Native.Nat.{ℕ, zero, suc, _+_, _-_, _<_, _≤_}
+use Prim.Native.Nat.{ℕ, suc, _+_, _-_, _<_, _≤_}
 use native.Mathlib.Omega.{arith}
 use mathlib.Core.Path.{_≡_, refl, sym, ap, subst, _∙_}
 use mathlib.Core.Bool.{Bool, true, false}
 use mathlib.Core.List.{List, [], _∷_}
 use lib.ListN.{length}
 use lib.Seq.{sets}
-use lib.Dec.{eqb, leb}
 use borrow.Author.Tests.{eq-eqb, ne-eqb, lt-leb, lt-ltb, le-ltb}
-use Rattle.model.specs.Tests.{pick}
 use Rattle.model.specs.Table.{Table, entry}
-use Rattle.model.specs.Machine.{Ctl, Data, flagged, Stepped, Stop, Went, step, size, Final, final, afterStep, ended, run, startCtl}
+use Rattle.model.specs.Machine.{Ctl, Data, flagged, Went, step, size, ended, run, startCtl}
 use Rattle.model.specs.declared.Sizes.{Sizes}
 use Rattle.model.specs.declared.Directive.{Directive}
-use Rattle.model.specs.declared.Observation.{Observation}
 use Rattle.format.specs.Format.{wordsFrom}
 use Rattle.format.specs.Layout.{tableWith, tableOf}
 use Rattle.reading.specs.Reading.{readAt}
@@ -22,14 +19,13 @@ use Rattle.reading.specs.declared.Answer.the-variants.{Reads}
 use Rattle.machine.specs.declared.State.{State}
 use Rattle.machine.specs.declared.Stacking.{Stacking}
 use Rattle.machine.specs.declared.Stacking.the-variants.{Same, Push, Pop, Clear}
-use Rattle.machine.specs.declared.Next.{Next}
 use Rattle.machine.specs.declared.Plan.{Plan}
 use Rattle.machine.specs.declared.Acted.{Acted}
 use Rattle.machine.specs.declared.Turn.{Turn}
 use Rattle.machine.specs.declared.Told.the-variants.{Got, Bad}
 use Rattle.machine.specs.Directives.{directiveAt, directivesFrom, bytesOf}
 use Rattle.machine.specs.States.{words, length-stack, ctlOf, ctlNext, arrayNext, arrayed, RoomFor, dataOf, applied, viewPlan, stacked, below}
-use Rattle.machine.specs.Runs.{total, ranFrom}
+use Rattle.machine.specs.Runs.{total}
 use Rattle.machine.specs.Turns.{Lent, lent, actedOf, Ready, Acts, Turns}
 use Rattle.machine.proofs.Moving.{Moved, Grows, only-calls}
 use Rattle.machine.proofs.Going.{directives-end, directives-bad, directives-on, run-ended, run-used, run-step, Going, StandsAt, own-sizes}

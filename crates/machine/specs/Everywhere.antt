@@ -1,29 +1,25 @@
 -- For every table that reads, typed or not, and every list of directives: wherever a run ends, and so after each of its steps, it
 -- stands at the start of a record of code, with at most 31 places on the stack and none at the entry's RETURN; and it stops only
 -- for a listed reason.
-use Prim.Native.Nat.{ℕ, zero, suc, _+_, _-_, _<_, _≤_}
+use Prim.Native.Nat.{ℕ, _-_, _<_, _≤_}
 use native.Mathlib.Omega.{arith}
-use mathlib.Core.Path.{_≡_, refl, sym, subst, _∙_}
-use mathlib.Core.Logic.{_⊎_, inl, inr}
-use mathlib.Core.Bool.{Bool, true, false}
+use mathlib.Core.Path.{_≡_, refl, sym, _∙_}
+use mathlib.Core.Logic.{inl, inr}
+use mathlib.Core.Bool.{Bool}
 use mathlib.Core.List.{List, [], _∷_}
 use lib.ListN.{length}
-use lib.Dec.{eqb, leb, ltb}
-use Rattle.model.specs.Tests.{pick, pick-ind}
 use Rattle.model.specs.Table.{Table, entry}
 use Rattle.model.specs.Rules.{reading}
-use Rattle.model.specs.Records.{lengthOf, length-pos}
+use Rattle.model.specs.Records.{length-pos}
 use Rattle.model.specs.Places.{Chain, chain-le, spans, look, between, no-return}
-use Rattle.model.specs.Flow.{To, Frames}
 use Rattle.model.specs.Code.{Reads as Known, At, enters-at, depth}
 use Rattle.model.specs.Stands.{Stands, EndStands, stack-bound, run-stands}
-use Rattle.model.specs.Machine.{Ctl, Data, Work, halt, did, Stepped, Stop, Went, plain, onward, byAccess, inRange, strayed, access, work, pass, fork, wrong, right, pop, back, stepOf, step, size, Final, final, observed, afterStep, ended, run, startCtl}
+use Rattle.model.specs.Machine.{Ctl, Data, Final, final, run, startCtl}
 use Rattle.model.specs.declared.Sizes.{Sizes}
 use Rattle.model.specs.declared.Directive.{Directive}
 use Rattle.format.specs.Layout.{tableOf}
 use Rattle.reading.specs.Reading.{readAt}
 use Rattle.reading.specs.Known.{known}
-use Rattle.reading.specs.Limits.{read-limits}
 use Rattle.reading.specs.declared.Answer.the-variants.{Reads}
 
 -- where control stands: in a function, at a record that is met by going through its records from its start

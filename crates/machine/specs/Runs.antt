@@ -1,13 +1,13 @@
 -- Document 01, a run over bytes: refusals 1 to 9, 15, 16 leave everything as lent; else the model's run of the table that the
 -- bytes stand for, its observations as bytes at the start of the buffer.
-use Prim.Native.Nat.{ℕ, zero, suc, _+_}
-use mathlib.Core.Bool.{Bool, true, false}
+use Prim.Native.Nat.{ℕ, _+_}
+use mathlib.Core.Bool.{false}
 use mathlib.Core.List.{List, [], _∷_}
 use lib.ListN.{length}
 use lib.Seq.{sets}
 use lib.Dec.{eqb}
 use Rattle.model.specs.Tests.{pick}
-use Rattle.model.specs.Machine.{Ctl, Data, Final, final, run, startCtl}
+use Rattle.model.specs.Machine.{Final, final, run, startCtl}
 use Rattle.model.specs.declared.Sizes.{Sizes}
 use Rattle.format.specs.Format.{wordsFrom}
 use Rattle.format.specs.Layout.{tableWith}
@@ -16,7 +16,6 @@ use Rattle.reading.specs.declared.Answer.{Answer}
 use Rattle.reading.specs.declared.Answer.the-variants.{Reads, Refused as Unread}
 use Rattle.machine.specs.declared.Listed.{Listed}
 use Rattle.machine.specs.declared.Listed.the-variants.{Good, Wrong}
-use Rattle.machine.specs.declared.Stop.{Stop}
 use Rattle.machine.specs.declared.Outcome.{Outcome}
 use Rattle.machine.specs.declared.Outcome.the-variants.{Refused, Stopped}
 use Rattle.machine.specs.Directives.{listAt, directivesOf, allBytes}

@@ -1,5 +1,5 @@
 -- What the machine's state and its plan for one step stand for.
-use Prim.Native.Nat.{ℕ, zero, suc, _<_, _≤_}
+use Prim.Native.Nat.{ℕ, zero, suc, _<_}
 use mathlib.Core.Path.{_≡_, refl, ap}
 use mathlib.Core.Bool.{Bool, true, false, not, _||_}
 use mathlib.Core.Option.{Option, none, some}
@@ -11,9 +11,6 @@ use Rattle.model.specs.Table.{Table}
 use Rattle.model.specs.Machine.{Ctl, Data, holds, wrote, stored, flagged, to, wordsOf, did, plain, onward, Stepped, Stop, Went}
 use Rattle.model.specs.declared.Directive.{Directive}
 use Rattle.model.specs.declared.Directive.the-variants.{Plain, Branch, Stray, Back}
-use Rattle.model.specs.declared.Sizes.{Sizes}
-use Rattle.model.specs.declared.Record.the-variants.{Call}
-use Rattle.format.specs.Layout.{recordOf}
 use Rattle.model.specs.declared.Observation.{Observation}
 use Rattle.machine.specs.declared.State.{State}
 use Rattle.machine.specs.declared.Effect.{Effect}

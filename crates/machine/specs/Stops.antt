@@ -1,20 +1,19 @@
 -- "stops only for a listed reason": whatever the table, the directives and the state, a run ends with one of 20 to 26.
 use Prim.Native.Nat.{ℕ, _-_, _≤_}
 use native.Mathlib.Omega.{arith}
-use mathlib.Core.Path.{_≡_}
-use mathlib.Core.Bool.{Bool, true, false, _&&_}
+use mathlib.Core.Bool.{Bool, _&&_}
 use mathlib.Core.Option.{Option, none, some}
 use mathlib.Core.List.{List, [], _∷_}
-use lib.Dec.{eqb, leb, ltb}
-use Rattle.model.specs.Tests.{pick, pick-ind, test}
+use lib.Dec.{leb, ltb}
+use Rattle.model.specs.Tests.{pick-ind}
 use Rattle.model.specs.Table.{Table}
-use Rattle.model.specs.Machine.{Ctl, Data, reg, wordsOf, wordAt, wrote, stored, flagged, truth, holds, operate, Work, halt, did, Stepped, Stop, Went, plain, onward, byAccess, inRange, strayed, access, work, pass, fork, wrong, right, pop, back, stepOf, step, size, Final, final, observed, afterStep, ended, run}
+use Rattle.model.specs.Machine.{Ctl, Data, reg, wordsOf, Work, halt, did, Stepped, Stop, Went, plain, onward, byAccess, inRange, strayed, access, work, pass, fork, wrong, right, pop, back, stepOf, step, size, Final, final, observed, afterStep, ended, run}
 use Rattle.model.specs.declared.Access.{Access}
 use Rattle.model.specs.declared.Access.the-variants.{Word, Bad}
 use Rattle.model.specs.declared.Directive.{Directive}
 use Rattle.model.specs.declared.Directive.the-variants.{Plain, Branch, Stray, Back}
 use Rattle.model.specs.declared.Observation.{Observation}
-use Rattle.model.specs.declared.Observation.the-variants.{Nothing, Way, Address}
+use Rattle.model.specs.declared.Observation.the-variants.{Nothing}
 use Rattle.model.specs.declared.Simple.{Simple}
 use Rattle.model.specs.declared.Simple.the-variants.{Const, Op, Select, Load, Store, Init, Update, Protect, LoadFixed, StoreFixed}
 use Rattle.model.specs.declared.Record.{Record}

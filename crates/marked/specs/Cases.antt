@@ -19,11 +19,10 @@ use Rattle.format.specs.Head.{sizesAt, arrayAt, signatureAt, arraysAt, signatur
 use Rattle.format.specs.Layout.{recordOf, returnOf, tableOf}
 use Rattle.reading.specs.Reading.{allowed, recordAt, callAt, ifWith, whileWith, blockWith, instrAt, blockAt, functionAt, functionsAt, partsAt, readAt}
 use Rattle.typing.specs.Check.{checkAt}
-use Rattle.typing.specs.declared.Verdict.{Verdict}
 use Rattle.typing.specs.declared.Verdict.the-variants.{Refused}
 use lib.ListN.{replicate}
 use Rattle.model.specs.Memory.{offsetIn}
-use Rattle.model.specs.Machine.{Ctl, Data, Stepped, Stop as Halt, Went, operate, access, stepOf, step, run}
+use Rattle.model.specs.Machine.{Stepped, Stop as Halt, Went, operate, access, stepOf, step, run}
 use Rattle.model.specs.declared.Directive.the-variants.{Branch}
 use Rattle.model.specs.declared.Record.the-variants.{If}
 use Rattle.machine.specs.Directives.{branchAt, strayAt, backAt, directiveAt, listFrom, listAt, directivesFrom, bytesOf, allBytes}

@@ -2,11 +2,9 @@
 -- directive list, whichever holds it".
 use Prim.Native.Nat.{ℕ, _+_, _-_, _≤_, min}
 use native.Mathlib.Omega.{arith}
-use mathlib.Core.Path.{_≡_, refl}
 use mathlib.Core.List.{List, [], _∷_}
-use mathlib.Core.Bool.{Bool, true, false}
 use lib.ListN.{length}
-use lib.Dec.{ltb, leb, eqb}
+use lib.Dec.{leb, eqb}
 use Rattle.model.specs.Tests.{pick, all, pick-ind}
 use Rattle.format.specs.Format.{byte, find, codeLength}
 use Rattle.message.specs.declared.Part.{Part}

@@ -21,12 +21,9 @@ use Rattle.model.specs.declared.Access.{Access}
 use Rattle.model.specs.declared.Access.the-variants.{Word, Bad}
 use Rattle.model.specs.declared.Directive.{Directive}
 use Rattle.model.specs.declared.Directive.the-variants.{Plain, Branch, Stray, Back}
-use Rattle.model.specs.declared.Observation.{Observation}
-use Rattle.model.specs.declared.Observation.the-variants.{Nothing, Way, Address}
+use Rattle.model.specs.declared.Observation.the-variants.{Nothing, Address}
 use Rattle.model.specs.declared.Simple.{Simple}
 use Rattle.model.specs.declared.Simple.the-variants.{Const, Op, Select, Load, Store, Init, Update, Protect, LoadFixed, StoreFixed}
-use Rattle.model.specs.declared.Record.{Record}
-use Rattle.model.specs.declared.Record.the-variants.{Do, Call, If, Else, Endif, While, Endwhile, Return}
 use Rattle.model.specs.Rules.{kill, settle, written, raised, spilled, beside, Needs, after}
 use Rattle.model.specs.Monotone.{settle-ind}
 use Rattle.model.specs.Machine.{Data, wordsOf, address, Work, halt, did, reg, wordAt, holds, wrote, stored, plain, byAccess, inRange, strayed, access, work}

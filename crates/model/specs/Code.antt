@@ -11,8 +11,8 @@ use Rattle.model.specs.declared.Status.the-variants.{Unknown}
 use Rattle.model.specs.Records.{length-pos}
 use Rattle.model.specs.Table.{Table, entry}
 use Rattle.model.specs.declared.Record.{Record}
-use Rattle.model.specs.declared.Record.the-variants.{Do, Call, If, Else, Endif, While, Endwhile, Return}
-use Rattle.model.specs.Blocks.{Rules, TypesFunction, Every}
+use Rattle.model.specs.declared.Record.the-variants.{Call, Return}
+use Rattle.model.specs.Blocks.{Rules, Every}
 use Rattle.model.specs.Rules.{reading, Lower}
 use Rattle.model.specs.Flow.{To, Site, Flow, Flows, Frames}
 use Rattle.model.specs.Places.{Chain, Log, All, Here, here, chain-le, covers, needs, no-return, between, look, each, first, flows, Enters, FlowsAt}

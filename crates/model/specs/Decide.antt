@@ -1,11 +1,11 @@
 -- Document 01's rules as tests, with the numbers of their faults; and that the tests decide the rules.
 use Prim.Native.Nat.{ℕ}
 use mathlib.Core.Path.{_≡_, refl}
-use mathlib.Core.Bool.{Bool, true, false}
+use mathlib.Core.Bool.{Bool, true}
 use lib.Dec.{eqb}
 use borrow.Author.Tests.{eqb-true, eq-eqb}
 use Rattle.model.specs.Tests.{Decides}
-use Rattle.model.specs.Levels.{Env, Within, within, within-is, sameStatus, same-status-is}
+use Rattle.model.specs.Levels.{Env, within, within-is, sameStatus, same-status-is}
 use Rattle.model.specs.Table.{Table}
 use Rattle.model.specs.Rules.{Needs, NeedsOf, typing}
 use Rattle.model.specs.Walk.{Tests, Right}

@@ -6,16 +6,15 @@ use native.Mathlib.Omega.{arith}
 use native.Mathlib.Decide.{decLt}
 use mathlib.Core.Path.{_≡_, sym, _∙_}
 use mathlib.Core.Bool.{Bool}
-use mathlib.Core.List.{List, []}
+use mathlib.Core.List.{List}
 use lib.ListN.{length, List·getD-eq-default}
 use Rattle.model.specs.Table.{Table, entry}
 use Rattle.model.specs.Rules.{typing, Typed}
-use Rattle.model.specs.Machine.{Ctl, Data, reg, wordsOf, wordAt, Final, final, run, startCtl}
+use Rattle.model.specs.Machine.{Data, reg, wordsOf, wordAt, Final, final, run, startCtl}
 use Rattle.model.specs.Alike.{top, Alike, weaken}
 use Rattle.model.specs.Secure.{Related, SameEnd, arrive, run-same}
 use Rattle.model.specs.Code.{Reads, At, enters-at, flows-at, ends-within}
 use Rattle.model.specs.declared.Directive.{Directive}
-use Rattle.model.specs.declared.Observation.{Observation}
 
 -- both of the table's sizes, equal in every register and array whose level on the way in is at most the highest that counts:
 -- transient on the right path, public while misspeculating

@@ -2,8 +2,7 @@
 -- One constructor for each way on to it; it stands beside Types, and mentions no checker.
 use Prim.Native.Nat.{ℕ, _+_, _<_}
 use mathlib.Core.Path.{_≡_}
-use mathlib.Core.Logic.{_⊎_}
-use mathlib.Core.Bool.{Bool, true, false}
+use mathlib.Core.Bool.{true, false}
 use Rattle.model.specs.Records.{lengthOf, Single}
 use Rattle.model.specs.Table.{Table}
 use Rattle.model.specs.Blocks.{Rules, Types, TypesFunction}

@@ -2,7 +2,7 @@
 use Prim.Native.Nat.{ℕ, _≤_, _<_, max}
 use native.Mathlib.Omega.{arith}
 use native.Mathlib.Nat.{le-refl, le-trans}
-use mathlib.Core.Path.{_≡_, refl, sym, subst, _∙_}
+use mathlib.Core.Path.{_≡_, refl, sym, subst}
 use mathlib.Core.Bool.{Bool, true, false, _&&_, Bool·beq, true≢false}
 use lib.Dec.{eqb, leb}
 use borrow.Author.Tests.{leb-true, le-leb}

@@ -5,10 +5,10 @@ use mathlib.Core.List.{List, [], _∷_}
 use mathlib.Core.Option.{Option, none, some}
 use lib.Bits.{bitAnd, bitOr, bitXor}
 use lib.Dec.{eqb, ltb, leb}
-use lib.ListN.{length, getD, set}
+use lib.ListN.{getD, set}
 use Rattle.model.specs.Tests.{pick}
 use Rattle.model.specs.Memory.{offsetIn}
-use Rattle.model.specs.Records.{lengthOf, simpleLength}
+use Rattle.model.specs.Records.{simpleLength}
 use Rattle.model.specs.Table.{Table, entry}
 use Rattle.model.specs.declared.Access.{Access}
 use Rattle.model.specs.declared.Access.the-variants.{Word, Bad}

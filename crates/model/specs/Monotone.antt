@@ -4,7 +4,6 @@ use native.Mathlib.Omega.{arith}
 use native.Mathlib.Nat.{le-refl}
 use mathlib.Core.Path.{_≡_, refl, subst}
 use mathlib.Core.Bool.{Bool, true, false}
-use lib.ListN.{length}
 use lib.Dec.{T, leb, ltb, leb→le, le→leb}
 use Rattle.model.specs.Tests.{pick, same, test}
 use Rattle.model.specs.Levels.{Env, Covers, Within, join, within-refl, within-trans, join-left, join-right, join-least}

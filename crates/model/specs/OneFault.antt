@@ -4,7 +4,7 @@ use Prim.Native.Nat.{ℕ, zero, suc, _+_, _<_, _≤_, max}
 use native.Mathlib.Omega.{arith}
 use mathlib.Core.Path.{_≡_, refl, sym, ap, subst, _∙_}
 use mathlib.Core.Logic.{_⊎_, inl, inr}
-use mathlib.Core.Bool.{Bool, true, false, true≢false}
+use mathlib.Core.Bool.{Bool, true, false}
 use lib.Dec.{T, ltb, ltb→lt, lt→ltb}
 use Rattle.model.specs.Tests.{Decides, test}
 use Rattle.model.specs.Records.{lengthOf, length-pos, Single, Closes}
@@ -13,8 +13,8 @@ use Rattle.model.specs.Blocks.{Rules, Types, done, one, branch, loop, Ty
 use Rattle.model.specs.Rules.{reading, typing}
 use Rattle.model.specs.Faults.{Faults, fails, past, if-guard, if-first, if-second, if-past, while-arriving, while-guard, while-body, while-end, while-past, FaultsFunction, inside as on-the-way, at-return, FirstFault}
 use Rattle.model.specs.Places.{nesting, chain-le, spans}
-use Rattle.model.specs.Walk.{Walked, Next, Shut, Fault, onNext, onShut, Tests, Right, ifWith, whileWith, single, instrWith, blockWith, instrAt, inside, functionAt, single-at, instr-at}
-use Rattle.model.specs.Passes.{else-same, walk, blocks, Block, Faulty, below, below₁, Complete, blocks-complete, walk-complete, Passes, passes-types}
+use Rattle.model.specs.Walk.{Walked, Next, Shut, Fault, onNext, Tests, Right, ifWith, whileWith, single, instrWith, blockWith, inside, functionAt, single-at, instr-at}
+use Rattle.model.specs.Passes.{else-same, walk, blocks, Faulty, below, below₁, Complete, blocks-complete, walk-complete, Passes, passes-types}
 use Rattle.model.specs.Typing.{Read}
 use Rattle.model.specs.Decide.{numberOf, typingTests, typing-right}
 use Rattle.model.specs.declared.Packed.{Packed}

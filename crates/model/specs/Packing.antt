@@ -1,8 +1,6 @@
 -- Document 01, "Packed environment, 7 bytes": a status byte, two bits a register, two bits an array.
-use Prim.Native.Nat.{ℕ, zero, suc, _<_, _≤_, _*_, _/_, _%_, _^_}
-use native.Mathlib.Omega.{arith}
-use mathlib.Core.Path.{_≡_, refl, sym, _∙_}
-use mathlib.Core.Bool.{Bool, true, false, true≢false}
+use Prim.Native.Nat.{ℕ, zero, suc, _/_, _%_}
+use mathlib.Core.Bool.{Bool, false}
 use mathlib.Core.List.{[], _∷_}
 use lib.Dec.{eqb, ltb}
 use Rattle.model.specs.Tests.{pick, all}

@@ -2,7 +2,6 @@
 use Prim.Native.Nat.{ℕ, _<_, max, min}
 use mathlib.Core.Path.{_≡_}
 use mathlib.Core.Bool.{Bool, true, false}
-use lib.ListN.{length}
 use lib.Dec.{eqb, leb, ltb}
 use Rattle.model.specs.Tests.{pick, put}
 use Rattle.model.specs.Levels.{Env, Within, join, within-refl, within-trans, join-left, join-right}

@@ -9,19 +9,19 @@ use mathlib.Core.Option.{Option, none, some}
 use lib.Dec.{leb}
 use Rattle.model.specs.Tests.{pick, test, same}
 use Rattle.model.specs.Levels.{Env, Covers, Within}
-use Rattle.model.specs.Records.{lengthOf, simpleLength, SimpleReaches, Reaches}
+use Rattle.model.specs.Records.{simpleLength, SimpleReaches, Reaches}
 use Rattle.model.specs.Table.{Table}
 use Rattle.model.specs.declared.Status.{Status}
 use Rattle.model.specs.declared.Status.the-variants.{Unknown, Updated, Outdated}
 use Rattle.model.specs.declared.Directive.{Directive}
 use Rattle.model.specs.declared.Directive.the-variants.{Plain, Branch, Stray, Back}
 use Rattle.model.specs.declared.Observation.{Observation}
-use Rattle.model.specs.declared.Observation.the-variants.{Nothing, Way, Address}
+use Rattle.model.specs.declared.Observation.the-variants.{Nothing}
 use Rattle.model.specs.declared.Simple.{Simple}
 use Rattle.model.specs.declared.Record.{Record}
 use Rattle.model.specs.declared.Record.the-variants.{Do, Call, If, Else, Endif, While, Endwhile, Return}
 use Rattle.model.specs.Rules.{Needs, guardStatus, callStatus, guarded, after, afterOf, typing}
-use Rattle.model.specs.Machine.{Ctl, Data, Work, halt, did, Stepped, Stop, Went, reg, holds, flagged, plain, onward, to, pop, work, pass, fork, wrong, right, back, stepOf, step, size, Final, final, observed, afterStep, ended, run}
+use Rattle.model.specs.Machine.{Ctl, Data, Work, halt, did, Stepped, Stop, Went, reg, holds, flagged, plain, onward, to, pop, work, fork, wrong, right, back, stepOf, step, size, Final, final, observed, afterStep, ended, run}
 use Rattle.model.specs.Alike.{top, Flag, Alike, Works, weaken, public, simple-works}
 use Rattle.model.specs.Flow.{To, Site, Flow, Flows, Frames}
 

@@ -16,7 +16,7 @@ use Rattle.model.specs.declared.Directive.the-variants.{Plain, Branch, S
 use Rattle.model.specs.declared.Observation.{Observation}
 use Rattle.model.specs.declared.Observation.the-variants.{Nothing}
 use Rattle.model.specs.Rules.{reading}
-use Rattle.model.specs.Machine.{Ctl, Data, Work, halt, did, Stepped, Stop, Went, reg, onward, to, pop, work, pass, plain, fork, wrong, right, back, stepOf, step, size, Final, final, observed, afterStep, ended, run}
+use Rattle.model.specs.Machine.{Ctl, Data, Work, halt, did, Stepped, Stop, Went, reg, onward, to, pop, work, plain, fork, wrong, right, back, stepOf, step, size, Final, final, observed, afterStep, ended, run}
 use Rattle.model.specs.Flow.{To, Site, Flow, Frames}
 use Rattle.model.specs.Code.{Reads, At, flows-at, depth}
 

@@ -1,12 +1,12 @@
 -- The typing of a whole table: the functions in table order, up to the first fault; and that it is what the rules say.
-use Prim.Native.Nat.{ℕ, zero, suc, _+_, _-_, _<_, _≤_}
+use Prim.Native.Nat.{ℕ, zero, suc, _-_, _<_, _≤_}
 use native.Mathlib.Omega.{arith}
-use mathlib.Core.Path.{_≡_, refl, sym, subst, _∙_}
+use mathlib.Core.Path.{_≡_, refl, subst}
 use mathlib.Core.Logic.{_↔_}
 use Rattle.model.specs.Table.{Table}
-use Rattle.model.specs.Blocks.{Types, TypesFunction, Every}
+use Rattle.model.specs.Blocks.{TypesFunction}
 use Rattle.model.specs.Rules.{typing, Typed, reading}
-use Rattle.model.specs.Faults.{FaultsFunction, FirstFault}
+use Rattle.model.specs.Faults.{FirstFault}
 use Rattle.model.specs.Places.{nesting}
 use Rattle.model.specs.Walk.{Walked, Next, Shut, Fault as Halt, functionAt}
 use Rattle.model.specs.declared.Typing.{Typing}

@@ -7,7 +7,6 @@ use Rattle.model.specs.Tests.{pick, Decides}
 use Rattle.model.specs.Records.{lengthOf, Single, Closes}
 use Rattle.model.specs.Table.{Table}
 use Rattle.model.specs.Blocks.{Rules}
-use Rattle.model.specs.declared.Packed.{Packed}
 use Rattle.model.specs.declared.Record.{Record}
 use Rattle.model.specs.declared.Record.the-variants.{Do, Call, If, Else, Endif, While, Endwhile, Return}
 

@@ -1,23 +1,22 @@
 -- The limits that a table keeps which reads: its length, and the numbers of its sizes record.
-use Prim.Native.Nat.{ℕ, _+_, _-_, _<_, _≤_}
-use native.Mathlib.Omega.{arith}
+use Prim.Native.Nat.{ℕ, _-_, _≤_}
 use mathlib.Core.Path.{_≡_, refl, subst}
 use mathlib.Core.List.{List, [], _∷_}
-use mathlib.Core.Bool.{Bool, true, false}
+use mathlib.Core.Bool.{Bool}
 use lib.ListN.{length}
 use lib.Dec.{ltb, leb, eqb}
 use borrow.Author.Tests.{leb-true, ltb-false}
-use Rattle.model.specs.Tests.{pick, all, pick-ind}
+use Rattle.model.specs.Tests.{all, pick-ind}
 use Rattle.model.specs.declared.Sizes.{Sizes}
 use Rattle.format.specs.Format.{byte}
-use Rattle.format.specs.Head.{then, sizesAt, arraysAt, signaturesAt}
+use Rattle.format.specs.Head.{then, sizesAt}
 use Rattle.format.specs.Laws.{trues}
 use Rattle.format.specs.Layout.{sizesOf}
 use Rattle.format.specs.declared.To.{To}
 use Rattle.format.specs.declared.To.the-variants.{At, Fault as Off}
 use Rattle.reading.specs.declared.Answer.{Answer}
 use Rattle.reading.specs.declared.Answer.the-variants.{Reads, Refused}
-use Rattle.reading.specs.Reading.{functionsAt, partsAt, answered, readAt}
+use Rattle.reading.specs.Reading.{partsAt, answered, readAt}
 
 pub record Limits (z : Sizes) : Type 0 where
   pub some-register : 1 ≤ z .registers

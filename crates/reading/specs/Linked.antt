@@ -5,15 +5,15 @@ use native.Mathlib.Omega.{arith}
 use native.Mathlib.Numerals.{add-one}
 use native.Mathlib.Decide.{ℕ-discrete}
 use mathlib.Core.Path.{_≡_, refl, sym, ap, subst, _∙_}
-use mathlib.Core.List.{List, [], _∷_}
-use mathlib.Core.Bool.{Bool, true, false, true≢false}
+use mathlib.Core.List.{List}
+use mathlib.Core.Bool.{Bool}
 use lib.ListN.{length}
-use lib.Dec.{ltb, leb, eqb}
-use borrow.Author.Tests.{leb-true, leb-false, ltb-true, ltb-false, eqb-true}
-use Rattle.model.specs.Tests.{pick, all, same, pick-ind}
-use Rattle.model.specs.Records.{lengthOf, length-pos, Single, Closes}
+use lib.Dec.{ltb, eqb}
+use borrow.Author.Tests.{ltb-true, eqb-true}
+use Rattle.model.specs.Tests.{pick, same, pick-ind}
+use Rattle.model.specs.Records.{lengthOf, Single, Closes}
 use Rattle.model.specs.Table.{Table}
-use Rattle.model.specs.Blocks.{Types, done, one, branch, loop, TypesFunction}
+use Rattle.model.specs.Blocks.{Types, done, one, branch, loop}
 use Rattle.model.specs.Rules.{reading, Lower}
 use Rattle.model.specs.Places.{nesting}
 use Rattle.model.specs.Scans.{edge}
@@ -35,7 +35,7 @@ use Rattle.format.specs.declared.To.the-variants.{At, Fault as Off}
 use Rattle.reading.specs.declared.Answer.{Answer}
 use Rattle.reading.specs.declared.Answer.the-variants.{Reads, Refused}
 use Rattle.reading.specs.Reading.{onRecord, onNext, onShut, recordAt, callAt, met, ifWith, whileWith, readWith, blockWith, instrAt, blockAt, functionAt, functionsAt, partsAt, answered, readAt}
-use Rattle.reading.specs.Steps.{Closing, GoodAt, record-good, closing, block-at-ok}
+use Rattle.reading.specs.Steps.{Closing, GoodAt, record-good, closing}
 
 -- the record decoded at a place is the table's record there
 record-is : (z : Sizes) (t : List ℕ) (p : ℕ) {r : Record} {n : ℕ} → decodeAt z t p ≡ Got r n → recordOf z t p ≡ r

@@ -1,7 +1,7 @@
 -- Document 01, "Numbers given back", 1 to 9: number 1, then a forward reading that ends at the first fault.
 use Prim.Native.Nat.{ℕ, zero, suc, _+_, _-_}
 use mathlib.Core.List.{List, [], _∷_}
-use mathlib.Core.Bool.{Bool, true, false}
+use mathlib.Core.Bool.{Bool, true}
 use lib.ListN.{length}
 use lib.Dec.{ltb, leb, eqb}
 use Rattle.model.specs.Tests.{pick}

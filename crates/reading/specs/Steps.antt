@@ -2,20 +2,20 @@
 use Prim.Native.Nat.{ℕ, zero, suc, _+_, _-_, _<_, _≤_}
 use native.Mathlib.Omega.{arith}
 use mathlib.Core.Path.{_≡_, refl, sym, ap, subst, _∙_}
-use mathlib.Core.List.{List, [], _∷_}
-use mathlib.Core.Bool.{Bool, true, false, true≢false}
+use mathlib.Core.List.{List}
+use mathlib.Core.Bool.{true}
 use lib.ListN.{length}
 use lib.Dec.{ltb, leb, eqb}
-use borrow.Author.Tests.{leb-true, leb-false, le-leb, eqb-true, ltb-true}
-use Rattle.model.specs.Tests.{pick, all, pick-ind}
+use borrow.Author.Tests.{eqb-true}
+use Rattle.model.specs.Tests.{pick-ind}
 use Rattle.model.specs.Records.{lengthOf, length-pos, Closes}
 use Rattle.model.specs.declared.Sizes.{Sizes}
 use Rattle.model.specs.declared.Record.{Record}
 use Rattle.model.specs.declared.Record.the-variants.{Do, Call, If, Else, Endif, While, Endwhile, Return}
 use Rattle.model.specs.declared.Walked.{Walked}
 use Rattle.model.specs.declared.Walked.the-variants.{Next, Shut, Fault}
-use Rattle.format.specs.Format.{byte, word16, find, decodeAt}
-use Rattle.format.specs.Laws.{kindOf, Names, Good, good}
+use Rattle.format.specs.Format.{byte, word16, decodeAt}
+use Rattle.format.specs.Laws.{kindOf, Names, good}
 use Rattle.format.specs.declared.Decoded.{Decoded}
 use Rattle.format.specs.declared.Decoded.the-variants.{Got, Bad}
 use Rattle.reading.specs.Reading.{onRecord, onNext, onShut, allowed, recordAt, callAt, met, ifWith, whileWith, readWith, blockWith, instrAt, blockAt}

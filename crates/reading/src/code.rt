@@ -6,7 +6,7 @@ use model::Record;
 use model::Sizes;
 use model::Walked;
 ghost use mathlib.Core.Path.{_≡_};
-ghost use Prim.Native.Nat.{_+_, _-_, _≤_};
+ghost use Prim.Native.Nat.{_+_, _-_};
 ghost use Rattle.reading.specs.Reading.{allowed, recordAt, callAt, met, ifWith, whileWith, instrAt, blockAt, blocksAt, functionAt, functionsAt};
 
 // A closing kind is allowed only where it is the closing kind c that is awaited.

@@ -2,7 +2,6 @@
 use format::To;
 use model::Sizes;
 ghost use mathlib.Core.Path.{_≡_};
-ghost use Prim.Native.Nat.{_≤_};
 ghost use Rattle.reading.specs.Reading.{readAt, partsAt};
 
 mod code;

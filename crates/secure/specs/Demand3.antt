@@ -6,27 +6,23 @@
 -- checkAt is what typing::check answers, runAt what machine::run answers and leaves behind: the definitions that their contracts cite.
 use Prim.Native.Nat.{ℕ, _+_, _≤_, _<_}
 use mathlib.Core.Path.{_≡_, refl, sym, ap, subst, _∙_}
-use mathlib.Core.Bool.{Bool, true, false}
+use mathlib.Core.Bool.{false}
 use mathlib.Core.List.{List}
 use lib.ListN.{length, getD}
 use lib.Seq.{sets}
-use lib.Dec.{eqb}
 use borrow.Author.Tests.{eq-eqb}
-use Rattle.model.specs.Table.{Table, entry}
+use Rattle.model.specs.Table.{entry}
 use Rattle.model.specs.Rules.{Typed}
-use Rattle.model.specs.Machine.{Ctl, Data, wordsOf, address, Final, final, run, startCtl}
+use Rattle.model.specs.Machine.{Ctl, wordsOf, address, Final, final, run, startCtl}
 use Rattle.model.specs.Demand3.{Agree, SameShown, secure}
-use Rattle.model.specs.declared.Sizes.{Sizes}
 use Rattle.model.specs.declared.Observation.{Observation}
 use Rattle.format.specs.Format.{wordsFrom}
 use Rattle.format.specs.Layout.{sizesOf, tableOf}
-use Rattle.reading.specs.Reading.{readAt}
 use Rattle.reading.specs.Known.{known}
 use Rattle.typing.specs.Check.{checkAt}
 use Rattle.typing.specs.Checked.{Readable, Pass, passes-exactly}
 use Rattle.machine.specs.declared.Listed.{Listed}
 use Rattle.machine.specs.declared.Listed.the-variants.{Good, Wrong}
-use Rattle.machine.specs.declared.Outcome.{Outcome}
 use Rattle.machine.specs.declared.Outcome.the-variants.{Refused, Stopped}
 use Rattle.machine.specs.Directives.{listAt, directivesOf, allBytes}
 use Rattle.machine.specs.Runs.{Ran, ran, total, ranFrom, started, onListed, runAt}

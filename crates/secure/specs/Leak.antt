@@ -5,7 +5,7 @@ use native.Mathlib.Omega.{arith}
 use mathlib.Core.Path.{_≡_, refl, sym, ap, _∙_}
 use mathlib.Core.Bool.{true, false}
 use mathlib.Core.List.{List, [], _∷_}
-use lib.ListN.{length, getD, replicate}
+use lib.ListN.{getD, replicate}
 use Rattle.model.specs.Tests.{below}
 use Rattle.model.specs.Levels.{Env, join, joinStatus, sameStatus, within, within-is}
 use Rattle.model.specs.Packing.{slot, levelsIn, packedIn}

@@ -5,7 +5,7 @@
 -- report::verdict_line, the exported check and message) are equations between each part of the answer, or a lent slice
 -- afterwards, and a value that the arguments fix: one-of is for each such part.
 use Prim.Native.Nat.{ℕ}
-use mathlib.Core.Path.{_≡_, refl, sym, ap, _∙_}
+use mathlib.Core.Path.{_≡_, sym, ap, _∙_}
 use mathlib.Core.List.{List}
 use Rattle.reading.specs.Reading.{readAt}
 use Rattle.reading.specs.declared.Answer.{Answer}

@@ -2,19 +2,18 @@
 -- missing is passed over by at most four bytes for each nesting.
 use Prim.Native.Nat.{ℕ, zero, suc, _+_, _*_, _<_, _≤_, max}
 use native.Mathlib.Omega.{arith}
-use mathlib.Core.Path.{_≡_, refl, sym, ap, subst, _∙_}
+use mathlib.Core.Path.{_≡_, refl}
 use mathlib.Core.List.{List}
-use mathlib.Core.Bool.{Bool, true, false}
+use mathlib.Core.Bool.{true, false}
 use lib.ListN.{length}
-use Rattle.model.specs.Tests.{pick, pick-ind}
-use Rattle.model.specs.Levels.{Env as Environment, join, within}
+use Rattle.model.specs.Tests.{pick-ind}
+use Rattle.model.specs.Levels.{Env as Environment, within}
 use Rattle.model.specs.Packing.{envOf}
 use Rattle.model.specs.Records.{lengthOf, length-pos}
 use Rattle.model.specs.Rules.{typing}
-use Rattle.model.specs.Decide.{typingTests, meetsOf, numberOf}
-use Rattle.model.specs.Walk.{Walked as Walking, Next as Onward, Shut as Closed, Fault as Halt, onNext, onShut, single, ifWith, whileWith, instrWith, blockWith, instrAt, inside, instr-at}
+use Rattle.model.specs.Decide.{typingTests, meetsOf}
+use Rattle.model.specs.Walk.{Walked as Walking, Next as Onward, Shut as Closed, Fault as Halt, onNext, onShut, single, ifWith, whileWith, instrWith, blockWith, instrAt}
 use Rattle.model.specs.declared.Sizes.{Sizes}
-use Rattle.model.specs.declared.Packed.{Packed}
 use Rattle.model.specs.declared.Record.{Record}
 use Rattle.model.specs.declared.Record.the-variants.{Do, Call, If, Else, Endif, While, Endwhile, Return}
 use Rattle.format.specs.Format.{decodeAt}

@@ -13,7 +13,7 @@ use Rattle.model.specs.Typing.{typeAll, Says, type-says, passes-typed}
 use Rattle.model.specs.declared.Sizes.{Sizes}
 use Rattle.model.specs.declared.Typing.{Typing}
 use Rattle.model.specs.declared.Typing.the-variants.{Passes, Fault}
-use Rattle.format.specs.Layout.{sizesOf, tableWith, tableOf}
+use Rattle.format.specs.Layout.{sizesOf, tableOf}
 use Rattle.reading.specs.Reading.{readAt}
 use Rattle.reading.specs.Linked.{sizes-read, all-read}
 use Rattle.reading.specs.declared.Answer.{Answer}

@@ -1,6 +1,6 @@
 -- The typing walk over the bytes of a table: what the checker's functions compute.
-use Prim.Native.Nat.{ℕ, zero, suc, _+_, _≤_}
-use mathlib.Core.Bool.{Bool, true, false}
+use Prim.Native.Nat.{ℕ, suc, _+_, _≤_}
+use mathlib.Core.Bool.{Bool, false}
 use mathlib.Core.List.{List}
 use lib.ListN.{length}
 use Rattle.model.specs.Tests.{pick}
@@ -16,7 +16,6 @@ use Rattle.model.specs.declared.Simple.{Simple}
 use Rattle.model.specs.declared.Walked.{Walked}
 use Rattle.model.specs.declared.Walked.the-variants.{Next, Shut, Fault}
 use Rattle.format.specs.Layout.{inOf, outOf, tableWith}
-use Rattle.typing.specs.declared.Env.{Env}
 use Rattle.typing.specs.declared.Walk.{Walk}
 use Rattle.typing.specs.Envs.{viewEnv}
 

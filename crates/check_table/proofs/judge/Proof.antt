@@ -1,4 +1,3 @@
-use native.Mathlib.Omega.{arith}
 use mathlib.Core.Path.{sym}
 use lib.Seq.{length-take-le}
 use borrow.Author.Needs.{needs}
@@ -8,31 +7,24 @@ use Rattle.check_table.proofs.judge.Reads as reads
 use Rattle.check_table.proofs.judge.Lts as lts
 use Rattle.typing.proofs.check.Reads as check-reads
 
--- src/main.rt:33:23
 enum-known-input : tie.Need-enum-known-input
 enum-known-input c = search needs
 
--- src/main.rt:34:22
 enum-known-input-2 : tie.Need-enum-known-input-2
 enum-known-input-2 c = search needs
 
--- src/main.rt:36:38
 slice-aggregate-check : tie.Need-slice-aggregate-check
 slice-aggregate-check c = sym (length-take-le _ _ (c .before .if1 .taken))
 
--- src/main.rt:36:17
 check-requires : tie.Need-check-requires
 check-requires c κs = search needs
 
--- src/main.rt:36:17
 returns : tie.Need-returns
 returns c = search needs
 
--- src/main.rt:31:1
 returns-2 : tie.Need-returns-2
 returns-2 c = search needs
 
--- src/main.rt:31:1
 returns-3 : tie.Need-returns-3
 returns-3 c = search needs
 

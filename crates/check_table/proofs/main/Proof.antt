@@ -11,47 +11,36 @@ use Rattle.check_table.proofs.read_input.Reads as read-input-reads
 use Rattle.io.proofs.write_all.Reads as write-all-reads
 use Rattle.report.proofs.verdict_line.Reads as verdict-line-reads
 
--- src/main.rt:45:28
 slice-aggregate-read-input : tie.Need-slice-aggregate-read-input
 slice-aggregate-read-input c = search needs
 
--- src/main.rt:45:9
 read-input-requires : tie.Need-read-input-requires
 read-input-requires c κs = search needs
 
--- src/main.rt:46:25
 slice-aggregate-judge : tie.Need-slice-aggregate-judge
 slice-aggregate-judge c = search needs
 
--- src/main.rt:46:9
 judge-requires : tie.Need-judge-requires
 judge-requires c κs = search needs
 
--- src/main.rt:48:43
 slice-aggregate-verdict-line : tie.Need-slice-aggregate-verdict-line
 slice-aggregate-verdict-line c = search needs
 
--- src/main.rt:48:9
 verdict-line-requires : tie.Need-verdict-line-requires
 verdict-line-requires c κs = search needs
 
--- src/main.rt:50:26
 array-share-prefix-line : tie.Need-array-share-prefix-line
 array-share-prefix-line c = search needs
 
--- src/main.rt:50:26
 slice-aggregate-write-all : tie.Need-slice-aggregate-write-all
 slice-aggregate-write-all c = sym (length-take-le _ _ (omega (arith, c .before .before .before .verdict-line .kept .1 .0)))
 
--- src/main.rt:50:9
 write-all-requires : tie.Need-write-all-requires
 write-all-requires c κs = search needs
 
--- src/main.rt:43:1
 returns : tie.Need-returns
 returns c = search needs
 
--- src/main.rt:43:1
 returns-2 : tie.Need-returns-2
 returns-2 c = search needs
 

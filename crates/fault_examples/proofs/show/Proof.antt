@@ -10,35 +10,27 @@ use Rattle.io.proofs.write_all.Reads as write-all-reads
 use Rattle.report.proofs.verdict_line.Reads as verdict-line-reads
 use Rattle.typing.proofs.check.Reads as check-reads
 
--- src/main.rt:3:9
 check-requires : tie.Need-check-requires
 check-requires c κs = search needs
 
--- src/main.rt:5:43
 slice-aggregate-verdict-line : tie.Need-slice-aggregate-verdict-line
 slice-aggregate-verdict-line c = search needs
 
--- src/main.rt:5:9
 verdict-line-requires : tie.Need-verdict-line-requires
 verdict-line-requires c κs = search needs
 
--- src/main.rt:7:26
 array-share-prefix-line : tie.Need-array-share-prefix-line
 array-share-prefix-line c = search needs
 
--- src/main.rt:7:26
 slice-aggregate-write-all : tie.Need-slice-aggregate-write-all
 slice-aggregate-write-all c = sym (length-take-le _ _ (omega (arith, c .before .before .before .verdict-line .kept .1 .0)))
 
--- src/main.rt:7:9
 write-all-requires : tie.Need-write-all-requires
 write-all-requires c κs = search needs
 
--- src/main.rt:2:1
 returns : tie.Need-returns
 returns c = search needs
 
--- src/main.rt:2:1
 returns-2 : tie.Need-returns-2
 returns-2 c = search needs
 

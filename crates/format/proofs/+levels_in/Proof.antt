@@ -21,14 +21,12 @@ abbrev levels-in-below : ℕ → In 0 levels-in-kinds.ps
 levels-in-below t =
     and 0 levels-in-kinds.ps (falls 0 levels-in-kinds.ps _<_ μ-levels-in t) levels-in.Pre
 
--- src/records.rt:47:9
 levels-in-returns :
     (t : ℕ) →
     levels-in-lts.Need-returns (levels-in-below t, levels-in.Post) (levels-in-at t) levels-in.Post
 unfolding levelsIn
 levels-in-returns t c = simp (c .if1 .taken)
 
--- src/records.rt:50:9
 levels-in-returns-2 :
     (t : ℕ) →
     levels-in-lts.Need-returns-2
@@ -40,21 +38,18 @@ levels-in-returns-2 t c =
     let k = c .if2 .taken in
     simp (levels-is, eq-eqb)
 
--- src/records.rt:52:15
 levels-in-sub-levels-in : (t : ℕ) → levels-in-lts.Need-sub-levels-in (
   levels-in-below t,
   levels-in.Post,
 ) (levels-in-at t) levels-in.Post
 levels-in-sub-levels-in t c = search needs
 
--- src/records.rt:52:5
 levels-in-levels-in-requires : (t : ℕ) → levels-in-lts.Need-levels-in-requires (
   levels-in-below t,
   levels-in.Post,
 ) (levels-in-at t) levels-in.Post
 levels-in-levels-in-requires t c κs = search needs
 
--- src/records.rt:43:1
 levels-in-returns-3 :
     (t : ℕ) →
     levels-in-lts.Need-returns-3

@@ -5,15 +5,12 @@ use Rattle.format.proofs.byte_at.Tie as tie
 use Rattle.format.proofs.byte_at.Reads as reads
 use Rattle.format.proofs.byte_at.Lts as lts
 
--- src/lib.rt:46:16
 shared-slice-read-result : tie.Need-shared-slice-read-result
 shared-slice-read-result c = search needs
 
--- src/lib.rt:46:9
 returns : tie.Need-returns
 returns c = search needs
 
--- src/lib.rt:42:1
 returns-2 : tie.Need-returns-2
 returns-2 c = past (c .before .args .t .now) (c .before .args .p) (c .if1 .left)
 

@@ -6,15 +6,12 @@ use Rattle.format.proofs.packed_at.Reads as reads
 use Rattle.format.proofs.packed_at.Lts as lts
 use Rattle.format.proofs.seven.Reads as seven-reads
 
--- src/lib.rt:104:9
 seven-requires : tie.Need-seven-requires
 seven-requires c κs = search needs
 
--- src/lib.rt:104:9
 returns : tie.Need-returns
 returns c = search needs
 
--- src/lib.rt:100:1
 returns-2 : tie.Need-returns-2
 returns-2 c = past-packed (c .before .before .args .t .now) (c .before .before .args .p) (c .if1 .left)
 

@@ -9,22 +9,18 @@ use Rattle.format.proofs.packed_in.Reads as reads
 use Rattle.format.proofs.packed_in.Lts as lts
 use Rattle.format.proofs.levels_in.Reads as levels-in-reads
 
--- src/records.rt:60:9
 returns : tie.Need-returns
 unfolding packedIn
 returns c =
     let h1 = c .if1 .taken in
     simp le-ltb
 
--- src/records.rt:62:8
 levels-in-requires : tie.Need-levels-in-requires
 levels-in-requires c κs = search needs
 
--- src/records.rt:63:9
 levels-in-requires-2 : tie.Need-levels-in-requires-2
 levels-in-requires-2 c κs = search needs
 
--- src/records.rt:63:9
 returns-2 : tie.Need-returns-2
 unfolding packedIn
 returns-2 c =
@@ -32,7 +28,6 @@ returns-2 c =
     let e = sym (c .before .before .levels-in .ensures) ∙ c .before .if2 .taken in
     simp (e, pick-self, lt-ltb) (c .levels-in2 .ensures)
 
--- src/records.rt:56:1
 returns-3 : tie.Need-returns-3
 unfolding packedIn
 returns-3 c =

@@ -8,39 +8,30 @@ use Rattle.format.proofs.place_at.Lts as lts
 use Rattle.format.proofs.byte_at.Reads as byte-at-reads
 use Rattle.format.proofs.wide_place.Reads as wide-place-reads
 
--- src/lib.rt:56:27
 shared-slice-read-wide-place : tie.Need-shared-slice-read-wide-place
 shared-slice-read-wide-place c = search needs
 
--- src/lib.rt:56:16
 wide-place-requires : tie.Need-wide-place-requires
 wide-place-requires c κs = search needs
 
--- src/lib.rt:56:57
 add-byte-at : tie.Need-add-byte-at
 add-byte-at c = search needs
 
--- src/lib.rt:56:46
 byte-at-requires : tie.Need-byte-at-requires
 byte-at-requires c κs = search needs
 
--- src/lib.rt:56:35
 wide-place-requires-2 : tie.Need-wide-place-requires-2
 wide-place-requires-2 c κs = search needs
 
--- src/lib.rt:56:35
 mul-result : tie.Need-mul-result
 mul-result c = search needs
 
--- src/lib.rt:56:16
 add-result : tie.Need-add-result
 add-result c = search needs
 
--- src/lib.rt:56:9
 returns : tie.Need-returns
 returns c = search needs
 
--- src/lib.rt:52:1
 returns-2 : tie.Need-returns-2
 returns-2 c = (past16 (c .before .before .args .t .now) (c .before .before .args .p) (c .if1 .left), omega arith)
 

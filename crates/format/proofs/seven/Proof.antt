@@ -7,27 +7,21 @@ use Rattle.format.proofs.byte_at.Reads as byte-at-reads
 use Rattle.format.proofs.four.Reads as four-reads
 use Rattle.format.proofs.two.Reads as two-reads
 
--- src/lib.rt:83:9
 byte-at-requires : tie.Need-byte-at-requires
 byte-at-requires c κs = search needs
 
--- src/lib.rt:84:29
 add-four : tie.Need-add-four
 add-four c = search needs
 
--- src/lib.rt:84:9
 four-requires : tie.Need-four-requires
 four-requires c κs = search needs
 
--- src/lib.rt:85:25
 add-two : tie.Need-add-two
 add-two c = search needs
 
--- src/lib.rt:85:9
 two-requires : tie.Need-two-requires
 two-requires c κs = search needs
 
--- src/lib.rt:79:1
 returns : tie.Need-returns
 returns c = simp (c .before .before .byte-at .ensures, c .before .four .ensures, c .two .ensures .0)
 

@@ -6,15 +6,12 @@ use Rattle.format.proofs.word_at.Reads as reads
 use Rattle.format.proofs.word_at.Lts as lts
 use Rattle.format.proofs.four.Reads as four-reads
 
--- src/lib.rt:80:9
 four-requires : tie.Need-four-requires
 four-requires c κs = search needs
 
--- src/lib.rt:80:9
 returns : tie.Need-returns
 returns c = search needs
 
--- src/lib.rt:76:1
 returns-2 : tie.Need-returns-2
 returns-2 c = past32 (c .before .before .args .t .now) (c .before .before .args .p) (c .if1 .left)
 

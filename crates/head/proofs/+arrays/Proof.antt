@@ -1,4 +1,4 @@
-use mathlib.Core.Path.{_≡_, refl, sym, _∙_}
+use mathlib.Core.Path.{sym, _∙_}
 use Rattle.format.specs.Head.{arraysAt}
 use Rattle.head.proofs.Laws.{arrays-is}
 use borrow.Author.Needs.{needs}
@@ -21,7 +21,6 @@ arrays-at t = and 1 arrays-kinds.ps (is 1 arrays-kinds.ps μ-arrays t) arrays.Pr
 abbrev arrays-below : ℕ → In 1 arrays-kinds.ps
 arrays-below t = and 1 arrays-kinds.ps (falls 1 arrays-kinds.ps _<_ μ-arrays t) arrays.Pre
 
--- src/head.rt:72:9
 arrays-returns : (t : ℕ) → arrays-lts.Need-returns (
   array-reads.Asked,
   array-reads.Learnt,
@@ -32,7 +31,6 @@ unfolding arraysAt
 arrays-returns t c =
     simp (c .if1 .taken)
 
--- src/head.rt:74:9
 arrays-array-requires : (t : ℕ) → arrays-lts.Need-array-requires (
   array-reads.Asked,
   array-reads.Learnt,
@@ -41,7 +39,6 @@ arrays-array-requires : (t : ℕ) → arrays-lts.Need-array-requires (
 ) (arrays-at t) arrays.Post
 arrays-array-requires t c κs = search needs
 
--- src/head.rt:76:16
 arrays-enum-known-one : (t : ℕ) → arrays-lts.Need-enum-known-one (
   array-reads.Asked,
   array-reads.Learnt,
@@ -50,7 +47,6 @@ arrays-enum-known-one : (t : ℕ) → arrays-lts.Need-enum-known-one (
 ) (arrays-at t) arrays.Post
 arrays-enum-known-one t c = search needs
 
--- src/head.rt:76:32
 arrays-sub-arrays : (t : ℕ) → arrays-lts.Need-sub-arrays (
   array-reads.Asked,
   array-reads.Learnt,
@@ -59,7 +55,6 @@ arrays-sub-arrays : (t : ℕ) → arrays-lts.Need-sub-arrays (
 ) (arrays-at t) arrays.Post
 arrays-sub-arrays t c = search needs
 
--- src/head.rt:76:22
 arrays-arrays-requires : (t : ℕ) → arrays-lts.Need-arrays-requires (
   array-reads.Asked,
   array-reads.Learnt,
@@ -68,7 +63,6 @@ arrays-arrays-requires : (t : ℕ) → arrays-lts.Need-arrays-requires (
 ) (arrays-at t) arrays.Post
 arrays-arrays-requires t c κs = search needs
 
--- src/head.rt:77:19
 arrays-enum-known-one-2 : (t : ℕ) → arrays-lts.Need-enum-known-one-2 (
   array-reads.Asked,
   array-reads.Learnt,
@@ -77,7 +71,6 @@ arrays-enum-known-one-2 : (t : ℕ) → arrays-lts.Need-enum-known-one-2 (
 ) (arrays-at t) arrays.Post
 arrays-enum-known-one-2 t c = search needs
 
--- src/head.rt:68:1
 arrays-returns-2 : (t : ℕ) → arrays-lts.Need-returns-2 (
   array-reads.Asked,
   array-reads.Learnt,
@@ -89,7 +82,6 @@ arrays-returns-2 t c =
     let e = sym (c .before .before .before .before .array .ensures) ∙ c .before .before .one .given .1 in
     simp (arrays-is, e) (c .arrays .ensures)
 
--- src/head.rt:68:1
 arrays-returns-3 : (t : ℕ) → arrays-lts.Need-returns-3 (
   array-reads.Asked,
   array-reads.Learnt,

@@ -1,4 +1,4 @@
-use mathlib.Core.Path.{_≡_, refl, sym, _∙_}
+use mathlib.Core.Path.{sym, _∙_}
 use Rattle.format.specs.Head.{signaturesAt}
 use Rattle.head.proofs.Laws.{signatures-is}
 use borrow.Author.Needs.{needs}
@@ -23,7 +23,6 @@ abbrev signatures-below : ℕ → In 1 signatures-kinds.ps
 signatures-below t =
     and 1 signatures-kinds.ps (falls 1 signatures-kinds.ps _<_ μ-signatures t) signatures.Pre
 
--- src/head.rt:116:9
 signatures-returns : (t : ℕ) → signatures-lts.Need-returns (
   signature-reads.Asked,
   signature-reads.Learnt,
@@ -34,7 +33,6 @@ unfolding signaturesAt
 signatures-returns t c =
     simp (c .if1 .taken)
 
--- src/head.rt:118:31
 signatures-sub-signature : (t : ℕ) → signatures-lts.Need-sub-signature (
   signature-reads.Asked,
   signature-reads.Learnt,
@@ -43,7 +41,6 @@ signatures-sub-signature : (t : ℕ) → signatures-lts.Need-sub-signature (
 ) (signatures-at t) signatures.Post
 signatures-sub-signature t c = search needs
 
--- src/head.rt:118:9
 signatures-signature-requires : (t : ℕ) → signatures-lts.Need-signature-requires (
   signature-reads.Asked,
   signature-reads.Learnt,
@@ -52,7 +49,6 @@ signatures-signature-requires : (t : ℕ) → signatures-lts.Need-signature-requ
 ) (signatures-at t) signatures.Post
 signatures-signature-requires t c κs = search needs
 
--- src/head.rt:120:16
 signatures-enum-known-one : (t : ℕ) → signatures-lts.Need-enum-known-one (
   signature-reads.Asked,
   signature-reads.Learnt,
@@ -61,7 +57,6 @@ signatures-enum-known-one : (t : ℕ) → signatures-lts.Need-enum-known-one (
 ) (signatures-at t) signatures.Post
 signatures-enum-known-one t c = search needs
 
--- src/head.rt:120:39
 signatures-sub-signatures : (t : ℕ) → signatures-lts.Need-sub-signatures (
   signature-reads.Asked,
   signature-reads.Learnt,
@@ -70,7 +65,6 @@ signatures-sub-signatures : (t : ℕ) → signatures-lts.Need-sub-signatures (
 ) (signatures-at t) signatures.Post
 signatures-sub-signatures t c = search needs
 
--- src/head.rt:120:22
 signatures-signatures-requires : (t : ℕ) → signatures-lts.Need-signatures-requires (
   signature-reads.Asked,
   signature-reads.Learnt,
@@ -79,7 +73,6 @@ signatures-signatures-requires : (t : ℕ) → signatures-lts.Need-signatures-re
 ) (signatures-at t) signatures.Post
 signatures-signatures-requires t c κs = search needs
 
--- src/head.rt:121:19
 signatures-enum-known-one-2 : (t : ℕ) → signatures-lts.Need-enum-known-one-2 (
   signature-reads.Asked,
   signature-reads.Learnt,
@@ -88,7 +81,6 @@ signatures-enum-known-one-2 : (t : ℕ) → signatures-lts.Need-enum-known-one-2
 ) (signatures-at t) signatures.Post
 signatures-enum-known-one-2 t c = search needs
 
--- src/head.rt:112:1
 signatures-returns-2 : (t : ℕ) → signatures-lts.Need-returns-2 (
   signature-reads.Asked,
   signature-reads.Learnt,
@@ -100,7 +92,6 @@ signatures-returns-2 t c =
     let e = sym (c .before .before .before .before .signature .ensures) ∙ c .before .before .one .given .1 in
     simp (signatures-is, e) (c .signatures .ensures)
 
--- src/head.rt:112:1
 signatures-returns-3 : (t : ℕ) → signatures-lts.Need-returns-3 (
   signature-reads.Asked,
   signature-reads.Learnt,

@@ -7,18 +7,15 @@ use Rattle.head.proofs.array.Reads as reads
 use Rattle.head.proofs.array.Lts as lts
 use Rattle.format.proofs.place_at.Reads as place-at-reads
 
--- src/head.rt:49:9
 returns : tie.Need-returns
 unfolding arrayAt
 returns c =
     let h1 = c .if1 .taken in
     simp (lt-ltb, le-ltb, le-leb, lt-leb, eq-eqb, ne-eqb)
 
--- src/head.rt:51:8
 shared-slice-read-if2 : tie.Need-shared-slice-read-if2
 shared-slice-read-if2 c = search needs
 
--- src/head.rt:52:9
 returns-2 : tie.Need-returns-2
 unfolding arrayAt
 returns-2 c =
@@ -26,11 +23,9 @@ returns-2 c =
     let h2 = c .before .before .if1 .left in
     simp (lt-ltb, le-ltb, le-leb, lt-leb, eq-eqb, ne-eqb)
 
--- src/head.rt:54:8
 sub-if3 : tie.Need-sub-if3
 sub-if3 c = search needs
 
--- src/head.rt:55:9
 returns-3 : tie.Need-returns-3
 unfolding arrayAt
 returns-3 c =
@@ -39,15 +34,12 @@ returns-3 c =
     let h3 = c .before .before .before .if1 .left in
     simp (lt-ltb, le-ltb, le-leb, lt-leb, eq-eqb, ne-eqb)
 
--- src/head.rt:57:29
 add-place-at : tie.Need-add-place-at
 add-place-at c = search needs
 
--- src/head.rt:57:9
 place-at-requires : tie.Need-place-at-requires
 place-at-requires c κs = search needs
 
--- src/head.rt:59:9
 returns-4 : tie.Need-returns-4
 unfolding arrayAt
 returns-4 c =
@@ -57,7 +49,6 @@ returns-4 c =
     let h4 = c .before .before .before .before .before .if1 .left in
     simp (c .before .place-at .ensures .0, lt-ltb, le-ltb, le-leb, lt-leb, eq-eqb, ne-eqb)
 
--- src/head.rt:62:9
 returns-5 : tie.Need-returns-5
 unfolding arrayAt
 returns-5 c =
@@ -68,11 +59,9 @@ returns-5 c =
     let h5 = c .before .before .before .before .before .before .if1 .left in
     simp (c .before .before .place-at .ensures .0, lt-ltb, le-ltb, le-leb, lt-leb, eq-eqb, ne-eqb)
 
--- src/head.rt:64:12
 add-t4 : tie.Need-add-t4
 add-t4 c = search needs
 
--- src/head.rt:45:1
 returns-6 : tie.Need-returns-6
 unfolding arrayAt
 returns-6 c =

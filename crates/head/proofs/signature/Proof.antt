@@ -1,4 +1,4 @@
-use mathlib.Core.Path.{_≡_, refl, sym, _∙_}
+use mathlib.Core.Path.{sym, _∙_}
 use borrow.Author.Tests.{lt-ltb, le-ltb, le-leb, lt-leb, eq-eqb, ne-eqb, not-true, not-false}
 use Rattle.format.specs.Head.{signatureAt}
 use borrow.Author.Needs.{needs}
@@ -9,18 +9,15 @@ use Rattle.head.proofs.signature.Lts as lts
 use Rattle.format.proofs.packed_at.Reads as packed-at-reads
 use Rattle.format.proofs.packed_in.Reads as packed-in-reads
 
--- src/head.rt:86:9
 returns : tie.Need-returns
 unfolding signatureAt
 returns c =
     let h = c .if1 .taken in
     simp (lt-ltb, le-ltb, le-leb, lt-leb, eq-eqb, ne-eqb)
 
--- src/head.rt:88:8
 shared-slice-read-if2 : tie.Need-shared-slice-read-if2
 shared-slice-read-if2 c = search needs
 
--- src/head.rt:89:9
 returns-2 : tie.Need-returns-2
 unfolding signatureAt
 returns-2 c =
@@ -28,11 +25,9 @@ returns-2 c =
     let h1 = c .before .before .if1 .left in
     simp (lt-ltb, le-ltb, le-leb, lt-leb, eq-eqb, ne-eqb)
 
--- src/head.rt:91:8
 sub-if3 : tie.Need-sub-if3
 sub-if3 c = search needs
 
--- src/head.rt:92:9
 returns-3 : tie.Need-returns-3
 unfolding signatureAt
 returns-3 c =
@@ -41,27 +36,21 @@ returns-3 c =
     let h1 = c .before .before .before .if1 .left in
     simp (lt-ltb, le-ltb, le-leb, lt-leb, eq-eqb, ne-eqb)
 
--- src/head.rt:94:29
 add-packed-at : tie.Need-add-packed-at
 add-packed-at c = search needs
 
--- src/head.rt:94:9
 packed-at-requires : tie.Need-packed-at-requires
 packed-at-requires c κs = search needs
 
--- src/head.rt:95:28
 add-packed-at-2 : tie.Need-add-packed-at-2
 add-packed-at-2 c = search needs
 
--- src/head.rt:95:9
 packed-at-requires-2 : tie.Need-packed-at-requires-2
 packed-at-requires-2 c κs = search needs
 
--- src/head.rt:96:9
 packed-in-requires : tie.Need-packed-in-requires
 packed-in-requires c κs = search needs
 
--- src/head.rt:97:9
 returns-4 : tie.Need-returns-4
 unfolding signatureAt
 returns-4 c =
@@ -73,11 +62,9 @@ returns-4 c =
     let e = simp v at (sym (c .before .packed-in .ensures) ∙ not-true _ (c .if4 .taken)) in
     simp (e, lt-ltb, le-ltb, le-leb, lt-leb, eq-eqb, ne-eqb)
 
--- src/head.rt:99:9
 packed-in-requires-2 : tie.Need-packed-in-requires-2
 packed-in-requires-2 c κs = search needs
 
--- src/head.rt:100:9
 returns-5 : tie.Need-returns-5
 unfolding signatureAt
 returns-5 c =
@@ -90,11 +77,9 @@ returns-5 c =
     let f = simp w at (sym (c .before .packed-in2 .ensures) ∙ not-true _ (c .if5 .taken)) in
     simp (e, f, lt-ltb, le-ltb, le-leb, lt-leb, eq-eqb, ne-eqb)
 
--- src/head.rt:103:23
 add-t13 : tie.Need-add-t13
 add-t13 c = search needs
 
--- src/head.rt:103:9
 returns-6 : tie.Need-returns-6
 unfolding signatureAt
 returns-6 c =
@@ -108,11 +93,9 @@ returns-6 c =
     let n = c .if6 .taken in
     simp (e, f, lt-ltb, le-ltb, le-leb, lt-leb, eq-eqb, ne-eqb)
 
--- src/head.rt:106:23
 add-t14 : tie.Need-add-t14
 add-t14 c = search needs
 
--- src/head.rt:106:9
 returns-7 : tie.Need-returns-7
 unfolding signatureAt
 returns-7 c =
@@ -127,7 +110,6 @@ returns-7 c =
     let z = simp v at (c .if7 .taken) in
     simp (e, f, n, lt-ltb, le-ltb, le-leb, lt-leb, eq-eqb, ne-eqb)
 
--- src/head.rt:82:1
 returns-8 : tie.Need-returns-8
 unfolding signatureAt
 returns-8 c =

@@ -6,18 +6,15 @@ use Rattle.head.proofs.sizes.Tie as tie
 use Rattle.head.proofs.sizes.Reads as reads
 use Rattle.head.proofs.sizes.Lts as lts
 
--- src/head.rt:16:9
 returns : tie.Need-returns
 unfolding sizesAt
 returns c =
     let h1 = c .if1 .taken in
     simp (lt-ltb, le-ltb, le-leb, lt-leb, eq-eqb, ne-eqb)
 
--- src/head.rt:18:8
 shared-slice-read-if2 : tie.Need-shared-slice-read-if2
 shared-slice-read-if2 c = search needs
 
--- src/head.rt:19:9
 returns-2 : tie.Need-returns-2
 unfolding sizesAt
 returns-2 c =
@@ -25,11 +22,9 @@ returns-2 c =
     let h2 = c .before .before .if1 .left in
     simp (lt-ltb, le-ltb, le-leb, lt-leb, eq-eqb, ne-eqb)
 
--- src/head.rt:21:8
 sub-if3 : tie.Need-sub-if3
 sub-if3 c = search needs
 
--- src/head.rt:22:9
 returns-3 : tie.Need-returns-3
 unfolding sizesAt
 returns-3 c =
@@ -38,31 +33,24 @@ returns-3 c =
     let h3 = c .before .before .before .if1 .left in
     simp (lt-ltb, le-ltb, le-leb, lt-leb, eq-eqb, ne-eqb)
 
--- src/head.rt:24:23
 add-registers : tie.Need-add-registers
 add-registers c = search needs
 
--- src/head.rt:24:21
 shared-slice-read-registers : tie.Need-shared-slice-read-registers
 shared-slice-read-registers c = search needs
 
--- src/head.rt:25:20
 add-arrays : tie.Need-add-arrays
 add-arrays c = search needs
 
--- src/head.rt:25:18
 shared-slice-read-arrays : tie.Need-shared-slice-read-arrays
 shared-slice-read-arrays c = search needs
 
--- src/head.rt:26:23
 add-functions : tie.Need-add-functions
 add-functions c = search needs
 
--- src/head.rt:26:21
 shared-slice-read-functions : tie.Need-shared-slice-read-functions
 shared-slice-read-functions c = search needs
 
--- src/head.rt:28:9
 returns-4 : tie.Need-returns-4
 unfolding sizesAt
 returns-4 c =
@@ -72,7 +60,6 @@ returns-4 c =
     let h4 = c .before .before .before .before .before .before .before .if1 .left in
     simp (lt-ltb, le-ltb, le-leb, lt-leb, eq-eqb, ne-eqb)
 
--- src/head.rt:31:9
 returns-5 : tie.Need-returns-5
 unfolding sizesAt
 returns-5 c =
@@ -83,7 +70,6 @@ returns-5 c =
     let h5 = c .before .before .before .before .before .before .before .before .if1 .left in
     simp (lt-ltb, le-ltb, le-leb, lt-leb, eq-eqb, ne-eqb)
 
--- src/head.rt:34:9
 returns-6 : tie.Need-returns-6
 unfolding sizesAt
 returns-6 c =
@@ -95,7 +81,6 @@ returns-6 c =
     let h6 = c .before .before .before .before .before .before .before .before .before .if1 .left in
     simp (lt-ltb, le-ltb, le-leb, lt-leb, eq-eqb, ne-eqb)
 
--- src/head.rt:37:9
 returns-7 : tie.Need-returns-7
 unfolding sizesAt
 returns-7 c =
@@ -108,7 +93,6 @@ returns-7 c =
     let h7 = c .before .before .before .before .before .before .before .before .before .before .if1 .left in
     simp (lt-ltb, le-ltb, le-leb, lt-leb, eq-eqb, ne-eqb)
 
--- src/head.rt:40:9
 returns-8 : tie.Need-returns-8
 unfolding sizesAt
 returns-8 c =
@@ -122,11 +106,9 @@ returns-8 c =
     let h8 = c .before .before .before .before .before .before .before .before .before .before .before .if1 .left in
     simp (lt-ltb, le-ltb, le-leb, lt-leb, eq-eqb, ne-eqb)
 
--- src/head.rt:42:12
 add-t10 : tie.Need-add-t10
 add-t10 c = search needs
 
--- src/head.rt:12:1
 returns-9 : tie.Need-returns-9
 unfolding sizesAt
 returns-9 c =

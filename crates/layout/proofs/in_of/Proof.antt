@@ -6,19 +6,15 @@ use Rattle.layout.proofs.in_of.Lts as lts
 use Rattle.layout.proofs.signature_place.Reads as signature-place-reads
 use Rattle.format.proofs.packed_at.Reads as packed-at-reads
 
--- src/layout.rt:52:18
 signature-place-requires : tie.Need-signature-place-requires
 signature-place-requires c κs = search needs
 
--- src/layout.rt:52:18
 add-packed-at : tie.Need-add-packed-at
 add-packed-at c = search needs
 
--- src/layout.rt:52:5
 packed-at-requires : tie.Need-packed-at-requires
 packed-at-requires c κs = search needs
 
--- src/layout.rt:49:1
 returns : tie.Need-returns
 returns c = simp (c .packed-at .ensures, c .before .signature-place .ensures .0)
 

@@ -5,19 +5,15 @@ use Rattle.layout.proofs.sizes_of.Reads as reads
 use Rattle.layout.proofs.sizes_of.Lts as lts
 use Rattle.format.proofs.byte_at.Reads as byte-at-reads
 
--- src/layout.rt:17:9
 byte-at-requires : tie.Need-byte-at-requires
 byte-at-requires c κs = search needs
 
--- src/layout.rt:18:9
 byte-at-requires-2 : tie.Need-byte-at-requires-2
 byte-at-requires-2 c κs = search needs
 
--- src/layout.rt:19:9
 byte-at-requires-3 : tie.Need-byte-at-requires-3
 byte-at-requires-3 c κs = search needs
 
--- src/layout.rt:14:1
 returns : tie.Need-returns
 returns c = simp (c .before .before .byte-at .ensures, c .before .byte-at2 .ensures, c .byte-at3 .ensures)
 

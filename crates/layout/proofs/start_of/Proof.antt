@@ -6,19 +6,15 @@ use Rattle.layout.proofs.start_of.Lts as lts
 use Rattle.layout.proofs.signature_place.Reads as signature-place-reads
 use Rattle.format.proofs.place_at.Reads as place-at-reads
 
--- src/layout.rt:45:17
 signature-place-requires : tie.Need-signature-place-requires
 signature-place-requires c κs = search needs
 
--- src/layout.rt:45:17
 add-place-at : tie.Need-add-place-at
 add-place-at c = search needs
 
--- src/layout.rt:45:5
 place-at-requires : tie.Need-place-at-requires
 place-at-requires c κs = search needs
 
--- src/layout.rt:42:1
 returns : tie.Need-returns
 returns c = (simp (c .place-at .ensures .0, c .before .signature-place .ensures .0), c .place-at .ensures .1)
 

@@ -6,19 +6,15 @@ use Rattle.layout.proofs.words_at.Lts as lts
 use Rattle.layout.proofs.array_place.Reads as array-place-reads
 use Rattle.format.proofs.place_at.Reads as place-at-reads
 
--- src/layout.rt:66:17
 array-place-requires : tie.Need-array-place-requires
 array-place-requires c κs = search needs
 
--- src/layout.rt:66:17
 add-place-at : tie.Need-add-place-at
 add-place-at c = search needs
 
--- src/layout.rt:66:5
 place-at-requires : tie.Need-place-at-requires
 place-at-requires c κs = search needs
 
--- src/layout.rt:63:1
 returns : tie.Need-returns
 returns c = (simp (c .place-at .ensures .0, c .before .array-place .ensures .0), c .place-at .ensures .1)
 

@@ -1,4 +1,4 @@
-use mathlib.Core.Path.{_≡_, refl, sym, ap, _∙_}
+use mathlib.Core.Path.{sym, ap, _∙_}
 use Rattle.likunjavo.specs.Numbers.{verdictNumbers}
 use borrow.Author.Needs.{needs}
 use Rattle.likunjavo.proofs.likunjavo_check.Statement.{statement}
@@ -8,39 +8,30 @@ use Rattle.likunjavo.proofs.likunjavo_check.Lts as lts
 use Rattle.likunjavo.proofs.put_three.Reads as put-three-reads
 use Rattle.typing.proofs.check.Reads as check-reads
 
--- src/lib.rt:44:9
 check-requires : tie.Need-check-requires
 check-requires c κs = search needs
 
--- src/lib.rt:46:27
 enum-known-v : tie.Need-enum-known-v
 enum-known-v c = search needs
 
--- src/lib.rt:46:72
 cast-put-three : tie.Need-cast-put-three
 cast-put-three c = search needs
 
--- src/lib.rt:46:48
 put-three-requires : tie.Need-put-three-requires
 put-three-requires c κs = search needs
 
--- src/lib.rt:47:26
 enum-known-v-2 : tie.Need-enum-known-v-2
 enum-known-v-2 c = search needs
 
--- src/lib.rt:47:62
 cast-put-three-2 : tie.Need-cast-put-three-2
 cast-put-three-2 c = search needs
 
--- src/lib.rt:47:44
 put-three-requires-2 : tie.Need-put-three-requires-2
 put-three-requires-2 c κs = search needs
 
--- src/lib.rt:40:1
 returns : tie.Need-returns
 returns c = c .put-three .ensures ∙ sym (ap verdictNumbers (sym (c .before .before .before .before .before .check .ensures) ∙ c .before .before .before .v .given .1))
 
--- src/lib.rt:40:1
 returns-2 : tie.Need-returns-2
 returns-2 c = c .put-three2 .ensures ∙ sym (ap verdictNumbers (sym (c .before .before .before .before .before .check .ensures) ∙ c .before .before .before .v2 .given .1))
 

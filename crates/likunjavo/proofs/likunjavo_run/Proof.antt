@@ -1,4 +1,4 @@
-use mathlib.Core.Path.{_≡_, refl, sym, ap, _∙_}
+use mathlib.Core.Path.{_∙_}
 use Rattle.likunjavo.proofs.Told.{told}
 use borrow.Author.Needs.{needs}
 use Rattle.likunjavo.proofs.likunjavo_run.Statement.{statement}
@@ -9,71 +9,54 @@ use Rattle.likunjavo.proofs.bit.Reads as bit-reads
 use Rattle.likunjavo.proofs.put_five.Reads as put-five-reads
 use Rattle.machine.proofs.run.Reads as run-reads
 
--- src/lib.rt:78:9
 run-requires : tie.Need-run-requires
 run-requires c κs = search needs
 
--- src/lib.rt:80:26
 enum-known-o : tie.Need-enum-known-o
 enum-known-o c = search needs
 
--- src/lib.rt:80:61
 cast-put-five : tie.Need-cast-put-five
 cast-put-five c = search needs
 
--- src/lib.rt:80:44
 put-five-requires : tie.Need-put-five-requires
 put-five-requires c κs = search needs
 
--- src/lib.rt:81:26
 enum-known-o-2 : tie.Need-enum-known-o-2
 enum-known-o-2 c = search needs
 
--- src/lib.rt:83:13
 cast-put-five-2 : tie.Need-cast-put-five-2
 cast-put-five-2 c = search needs
 
--- src/lib.rt:86:13
 bit-requires : tie.Need-bit-requires
 bit-requires c κs = search needs
 
--- src/lib.rt:87:13
 bit-requires-2 : tie.Need-bit-requires-2
 bit-requires-2 c κs = search needs
 
--- src/lib.rt:81:32
 put-five-requires-2 : tie.Need-put-five-requires-2
 put-five-requires-2 c κs = search needs
 
--- src/lib.rt:66:1
 same-length : tie.Need-same-length
 same-length c = search needs
 
--- src/lib.rt:66:1
 same-length-2 : tie.Need-same-length-2
 same-length-2 c = search needs
 
--- src/lib.rt:66:1
 same-length-3 : tie.Need-same-length-3
 same-length-3 c = search needs
 
--- src/lib.rt:66:1
 returns : tie.Need-returns
 returns c = told _ _ _ _ _ _ _ (c .before .before .before .before .before .before .before .before .before .before .before .run .ensures) (c .before .before .before .o .given .1) (c .put-five .ensures)
 
--- src/lib.rt:66:1
 same-length-4 : tie.Need-same-length-4
 same-length-4 c = search needs
 
--- src/lib.rt:66:1
 same-length-5 : tie.Need-same-length-5
 same-length-5 c = search needs
 
--- src/lib.rt:66:1
 same-length-6 : tie.Need-same-length-6
 same-length-6 c = search needs
 
--- src/lib.rt:66:1
 returns-2 : tie.Need-returns-2
 returns-2 c = told _ _ _ _ _ _ _ (c .before .before .before .before .before .before .before .before .before .before .before .before .before .before .run .ensures) (c .before .before .before .before .before .before .o2 .given .1) (c .put-five2 .ensures ∙ rw (c .before .before .bit .ensures, c .before .bit2 .ensures))
 

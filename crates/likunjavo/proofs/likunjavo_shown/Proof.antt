@@ -1,4 +1,4 @@
-use mathlib.Core.Path.{_≡_, refl, sym, ap, _∙_}
+use mathlib.Core.Path.{sym, ap, _∙_}
 use Rattle.likunjavo.specs.Numbers.{partNumbers}
 use borrow.Author.Needs.{needs}
 use Rattle.likunjavo.proofs.likunjavo_shown.Statement.{statement}
@@ -8,31 +8,24 @@ use Rattle.likunjavo.proofs.likunjavo_shown.Lts as lts
 use Rattle.likunjavo.proofs.put_three.Reads as put-three-reads
 use Rattle.message.proofs.part_of.Reads as part-of-reads
 
--- src/lib.rt:57:9
 part-of-requires : tie.Need-part-of-requires
 part-of-requires c κs = search needs
 
--- src/lib.rt:59:21
 enum-known-p : tie.Need-enum-known-p
 enum-known-p c = search needs
 
--- src/lib.rt:59:38
 put-three-requires : tie.Need-put-three-requires
 put-three-requires c κs = search needs
 
--- src/lib.rt:60:20
 enum-known-p-2 : tie.Need-enum-known-p-2
 enum-known-p-2 c = search needs
 
--- src/lib.rt:60:37
 put-three-requires-2 : tie.Need-put-three-requires-2
 put-three-requires-2 c κs = search needs
 
--- src/lib.rt:53:1
 returns : tie.Need-returns
 returns c = c .put-three .ensures ∙ sym (ap partNumbers (sym (c .before .before .before .before .before .part-of .ensures) ∙ c .before .before .before .p .given .1))
 
--- src/lib.rt:53:1
 returns-2 : tie.Need-returns-2
 returns-2 c = c .put-three2 .ensures ∙ sym (ap partNumbers (sym (c .before .before .before .before .before .part-of .ensures) ∙ c .before .before .before .p2 .given .1))
 

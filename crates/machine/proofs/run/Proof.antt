@@ -1,4 +1,4 @@
-use mathlib.Core.Path.{_≡_, refl, sym, ap, subst, _∙_}
+use mathlib.Core.Path.{sym, _∙_}
 use borrow.Author.Tests.{not-true, not-false}
 use Rattle.machine.proofs.Answers.{ran-unread, ran-misfit, ran-wrong, ran-steps, fit-memory}
 use borrow.Author.Needs.{needs}
@@ -11,23 +11,18 @@ use Rattle.machine.proofs.memory.fits.Reads as fits-reads
 use Rattle.machine.proofs.steps.all_steps.Reads as all-steps-reads
 use Rattle.reading.proofs.read.Reads as read-reads
 
--- src/lib.rt:84:9
 read-requires : tie.Need-read-requires
 read-requires c κs = search needs
 
--- src/lib.rt:86:25
 enum-known-a : tie.Need-enum-known-a
 enum-known-a c = search needs
 
--- src/lib.rt:87:23
 enum-known-a-2 : tie.Need-enum-known-a-2
 enum-known-a-2 c = search needs
 
--- src/lib.rt:88:17
 fits-requires : tie.Need-fits-requires
 fits-requires c κs = search needs
 
--- src/lib.rt:89:17
 returns : tie.Need-returns
 returns c =
     let a = c .before .before .before .before .before .before .before .before .before .before .before .args in
@@ -35,19 +30,15 @@ returns c =
     let f = sym (c .before .fits2 .ensures) ∙ not-true (c .before .fits2 .result) (c .if1 .taken) in
     ran-misfit (a .t .now) (a .regs .now) (a .mem .now) (a .dirs .now) (a .obs .now) _ e f
 
--- src/lib.rt:91:17
 list-fault-requires : tie.Need-list-fault-requires
 list-fault-requires c κs = search needs
 
--- src/lib.rt:93:31
 enum-known-l : tie.Need-enum-known-l
 enum-known-l c = search needs
 
--- src/lib.rt:94:73
 enum-told : tie.Need-enum-told
 enum-told c = search needs
 
--- src/lib.rt:94:50
 all-steps-requires : tie.Need-all-steps-requires
 all-steps-requires c κs =
     let a = c .before .before .before .before .before .before .before .before .before .before .before .before .before .before .before .before .before .args in
@@ -55,13 +46,11 @@ all-steps-requires c κs =
     let f = sym (c .before .before .before .before .before .before .before .fits2 .ensures) ∙ not-false (c .before .before .before .before .before .before .before .fits2 .result) (c .before .before .before .before .before .before .if1 .left) in
     (e, fit-memory (a .t .now) (a .regs .now) (a .mem .now) (a .dirs .now) (a .obs .now) _ e f)
 
--- src/lib.rt:81:1
 returns-2 : tie.Need-returns-2
 returns-2 c =
     let a = c .before .before .before .before .before .before .before .before .before .args in
     ran-unread (a .t .now) (a .regs .now) (a .mem .now) (a .dirs .now) (a .obs .now) (sym (c .before .before .before .read .ensures) ∙ c .before .a .given .1)
 
--- src/lib.rt:81:1
 returns-3 : tie.Need-returns-3
 returns-3 c =
     let a = c .before .before .before .before .before .before .before .before .before .before .before .before .before .before .before .args in
@@ -70,19 +59,15 @@ returns-3 c =
     let l = sym (c .before .before .before .list-fault .ensures) ∙ c .before .l .given .1 in
     ran-wrong (a .t .now) (a .regs .now) (a .mem .now) (a .dirs .now) (a .obs .now) _ e f l
 
--- src/lib.rt:81:1
 same-length : tie.Need-same-length
 same-length c = search needs
 
--- src/lib.rt:81:1
 same-length-2 : tie.Need-same-length-2
 same-length-2 c = search needs
 
--- src/lib.rt:81:1
 same-length-3 : tie.Need-same-length-3
 same-length-3 c = search needs
 
--- src/lib.rt:81:1
 returns-4 : tie.Need-returns-4
 returns-4 c =
     let a = c .before .before .before .before .before .before .before .before .before .before .before .before .before .before .before .before .before .before .before .before .before .before .before .before .args in

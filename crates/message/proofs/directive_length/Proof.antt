@@ -4,27 +4,22 @@ use Rattle.message.proofs.directive_length.Tie as tie
 use Rattle.message.proofs.directive_length.Reads as reads
 use Rattle.message.proofs.directive_length.Lts as lts
 
--- src/lib.rt:42:1
 returns : tie.Need-returns
 returns c =
     simp (c .match .keys1, lt-ltb, le-ltb, le-leb, lt-leb, eq-eqb, ne-eqb)
 
--- src/lib.rt:42:1
 returns-2 : tie.Need-returns-2
 returns-2 c =
     simp (c .match .keys2, lt-ltb, le-ltb, le-leb, lt-leb, eq-eqb, ne-eqb)
 
--- src/lib.rt:42:1
 returns-3 : tie.Need-returns-3
 returns-3 c =
     simp (c .match .keys3, lt-ltb, le-ltb, le-leb, lt-leb, eq-eqb, ne-eqb)
 
--- src/lib.rt:42:1
 returns-4 : tie.Need-returns-4
 returns-4 c =
     simp (c .match .keys4, lt-ltb, le-ltb, le-leb, lt-leb, eq-eqb, ne-eqb)
 
--- src/lib.rt:42:1
 returns-5 : tie.Need-returns-5
 returns-5 c =
     let r0 = c .match .rest .1 in

@@ -6,26 +6,21 @@ use Rattle.message.proofs.kind_length.Reads as reads
 use Rattle.message.proofs.kind_length.Lts as lts
 use Rattle.records.proofs.code_length.Reads as code-length-reads
 
--- src/lib.rt:37:14
 code-length-requires : tie.Need-code-length-requires
 code-length-requires c κs = search needs
 
--- src/lib.rt:30:1
 returns : tie.Need-returns
 returns c =
     simp (c .match .keys1, lt-ltb, le-ltb, le-leb, lt-leb, eq-eqb, ne-eqb)
 
--- src/lib.rt:30:1
 returns-2 : tie.Need-returns-2
 returns-2 c =
     simp (c .match .keys2, lt-ltb, le-ltb, le-leb, lt-leb, eq-eqb, ne-eqb)
 
--- src/lib.rt:30:1
 returns-3 : tie.Need-returns-3
 returns-3 c =
     simp (c .match .keys3, lt-ltb, le-ltb, le-leb, lt-leb, eq-eqb, ne-eqb)
 
--- src/lib.rt:30:1
 returns-4 : tie.Need-returns-4
 returns-4 c =
     let r0 = c .before .match .rest .1 in

@@ -13,7 +13,6 @@ use Rattle.message.proofs.rest.Reads as rest-reads
 use Rattle.message.proofs.smaller.Reads as smaller-reads
 use Rattle.message.proofs.table_count.Reads as table-count-reads
 
--- src/lib.rt:70:9
 returns : tie.Need-returns
 unfolding partOf
 returns c =
@@ -21,23 +20,18 @@ returns c =
     let n : c .before .before .before .args .number ≡ 16 → ⊥ = λ e. omega arith in
     simp (lt-leb, ne-eqb)
 
--- src/lib.rt:73:13
 table-count-requires : tie.Need-table-count-requires
 table-count-requires c κs = search needs
 
--- src/lib.rt:75:13
 smaller-requires : tie.Need-smaller-requires
 smaller-requires c κs = search needs
 
--- src/lib.rt:76:28
 rest-requires : tie.Need-rest-requires
 rest-requires c κs = search needs
 
--- src/lib.rt:76:13
 smaller-requires-2 : tie.Need-smaller-requires-2
 smaller-requires-2 c κs = search needs
 
--- src/lib.rt:74:9
 returns-2 : tie.Need-returns-2
 unfolding partOf
 returns-2 c =
@@ -45,7 +39,6 @@ returns-2 c =
     let h2 = c .before .before .before .before .before .if1 .left in
     simp (c .smaller2 .ensures, c .before .rest .ensures, c .before .before .smaller .ensures, c .before .before .before .table-count .ensures, lt-ltb, le-ltb, le-leb, lt-leb, eq-eqb, ne-eqb)
 
--- src/lib.rt:80:9
 returns-3 : tie.Need-returns-3
 unfolding partOf
 returns-3 c =
@@ -54,7 +47,6 @@ returns-3 c =
     let h3 = c .before .before .if1 .left in
     simp (lt-ltb, le-ltb, le-leb, lt-leb, eq-eqb, ne-eqb)
 
--- src/lib.rt:83:9
 returns-4 : tie.Need-returns-4
 unfolding partOf
 returns-4 c =
@@ -64,27 +56,21 @@ returns-4 c =
     let h4 = c .before .before .before .if1 .left in
     simp (lt-ltb, le-ltb, le-leb, lt-leb, eq-eqb, ne-eqb)
 
--- src/lib.rt:85:34
 byte-at-requires : tie.Need-byte-at-requires
 byte-at-requires c κs = search needs
 
--- src/lib.rt:85:9
 directive-length-requires : tie.Need-directive-length-requires
 directive-length-requires c κs = search needs
 
--- src/lib.rt:87:9
 smaller-requires-3 : tie.Need-smaller-requires-3
 smaller-requires-3 c κs = search needs
 
--- src/lib.rt:88:24
 rest-requires-2 : tie.Need-rest-requires-2
 rest-requires-2 c κs = search needs
 
--- src/lib.rt:88:9
 smaller-requires-4 : tie.Need-smaller-requires-4
 smaller-requires-4 c κs = search needs
 
--- src/lib.rt:66:1
 returns-5 : tie.Need-returns-5
 unfolding partOf
 returns-5 c =

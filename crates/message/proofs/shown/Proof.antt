@@ -1,6 +1,5 @@
-use native.Mathlib.Omega.{arith}
-use mathlib.Core.Path.{_≡_, refl, sym, subst, _∙_}
-use Rattle.message.specs.Shown.{partOf, Lies, part-lies}
+use mathlib.Core.Path.{sym, subst, _∙_}
+use Rattle.message.specs.Shown.{Lies, part-lies}
 use Rattle.message.proofs.Parts.{same-table, same-list, not-both}
 use borrow.Author.Needs.{needs}
 use Rattle.message.proofs.shown.Statement.{statement}
@@ -10,37 +9,30 @@ use Rattle.message.proofs.shown.Lts as lts
 use Rattle.message.proofs.part_of.Reads as part-of-reads
 use Rattle.message.proofs.slice_of.Reads as slice-of-reads
 
--- src/lib.rt:107:9
 part-of-requires : tie.Need-part-of-requires
 part-of-requires c κs = search needs
 
--- src/lib.rt:109:21
 enum-known-w : tie.Need-enum-known-w
 enum-known-w c = search needs
 
--- src/lib.rt:109:30
 slice-of-requires : tie.Need-slice-of-requires
 slice-of-requires c κs =
     let a = c .before .before .before .before .before .before .args in
     subst (Lies (a .table .now) (a .list .now)) (sym (c .before .before .before .part-of .ensures) ∙ c .before .w .given .1) (part-lies (a .table .now) (a .list .now) (a .number) (a .place))
 
--- src/lib.rt:110:20
 enum-known-w-2 : tie.Need-enum-known-w-2
 enum-known-w-2 c = search needs
 
--- src/lib.rt:110:29
 slice-of-requires-2 : tie.Need-slice-of-requires-2
 slice-of-requires-2 c κs =
     let a = c .before .before .before .before .before .before .args in
     subst (Lies (a .table .now) (a .list .now)) (sym (c .before .before .before .part-of .ensures) ∙ c .before .w2 .given .1) (part-lies (a .table .now) (a .list .now) (a .number) (a .place))
 
--- src/lib.rt:101:1
 returns : tie.Need-returns
 returns c =
     let e = sym (c .before .before .before .before .part-of .ensures) ∙ c .before .before .w .given .1 in
     (λ a k q. let h = same-table _ e q in rw (← (h .0), ← (h .1)) (c .slice-of .ensures), λ a k q. absurd (not-both _ e q))
 
--- src/lib.rt:101:1
 returns-2 : tie.Need-returns-2
 returns-2 c =
     let e = sym (c .before .before .before .before .part-of .ensures) ∙ c .before .before .w2 .given .1 in

@@ -7,23 +7,18 @@ use Rattle.message.proofs.slice_of.Tie as tie
 use Rattle.message.proofs.slice_of.Reads as reads
 use Rattle.message.proofs.slice_of.Lts as lts
 
--- src/lib.rt:96:15
 add-result : tie.Need-add-result
 add-result c = search needs
 
--- src/lib.rt:96:5
 sub-result : tie.Need-sub-result
 sub-result c = search needs
 
--- src/lib.rt:96:5
 part-result-start : tie.Need-part-result-start
 part-result-start c = search needs
 
--- src/lib.rt:96:5
 part-result-end : tie.Need-part-result-end
 part-result-end c = search needs
 
--- src/lib.rt:92:1
 returns : tie.Need-returns
 returns c = (refl, omega arith, rw add-sub-cancel-left)
 

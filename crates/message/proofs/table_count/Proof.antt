@@ -8,38 +8,30 @@ use Rattle.format.proofs.byte_at.Reads as byte-at-reads
 use Rattle.message.proofs.kind_length.Reads as kind-length-reads
 use Rattle.message.proofs.rest.Reads as rest-reads
 
--- src/lib.rt:57:14
 rest-requires : tie.Need-rest-requires
 rest-requires c κs = search needs
 
--- src/lib.rt:59:14
 rest-requires-2 : tie.Need-rest-requires-2
 rest-requires-2 c κs = search needs
 
--- src/lib.rt:60:26
 byte-at-requires : tie.Need-byte-at-requires
 byte-at-requires c κs = search needs
 
--- src/lib.rt:60:14
 kind-length-requires : tie.Need-kind-length-requires
 kind-length-requires c κs = search needs
 
--- src/lib.rt:53:1
 returns : tie.Need-returns
 returns c =
     simp (c .rest .ensures, c .before .match .keys1, lt-ltb, le-ltb, le-leb, lt-leb, eq-eqb, ne-eqb)
 
--- src/lib.rt:53:1
 returns-2 : tie.Need-returns-2
 returns-2 c =
     simp (c .match .keys2, lt-ltb, le-ltb, le-leb, lt-leb, eq-eqb, ne-eqb)
 
--- src/lib.rt:53:1
 returns-3 : tie.Need-returns-3
 returns-3 c =
     simp (c .rest2 .ensures, c .before .match .keys3, lt-ltb, le-ltb, le-leb, lt-leb, eq-eqb, ne-eqb)
 
--- src/lib.rt:53:1
 returns-4 : tie.Need-returns-4
 returns-4 c =
     let r0 = c .before .before .match .rest .1 in

@@ -1,4 +1,4 @@
-use mathlib.Core.Path.{_≡_, sym, _∙_}
+use mathlib.Core.Path.{sym, _∙_}
 use Rattle.reading.specs.Reading.{partsAt}
 use borrow.Author.Needs.{needs}
 use Rattle.reading.proofs.parts.Statement.{statement}
@@ -10,54 +10,42 @@ use Rattle.head.proofs.signatures.Reads as signatures-reads
 use Rattle.head.proofs.sizes.Reads as sizes-reads
 use Rattle.reading.proofs.code.functions.Reads as functions-reads
 
--- src/lib.rt:35:9
 sizes-requires : tie.Need-sizes-requires
 sizes-requires c κs = search needs
 
--- src/lib.rt:37:19
 enum-known-first : tie.Need-enum-known-first
 enum-known-first c = search needs
 
--- src/lib.rt:38:16
 enum-known-first-2 : tie.Need-enum-known-first-2
 enum-known-first-2 c = search needs
 
--- src/lib.rt:39:17
 arrays-requires : tie.Need-arrays-requires
 arrays-requires c κs = search needs
 
--- src/lib.rt:41:27
 enum-known-second : tie.Need-enum-known-second
 enum-known-second c = search needs
 
--- src/lib.rt:42:24
 enum-known-second-2 : tie.Need-enum-known-second-2
 enum-known-second-2 c = search needs
 
--- src/lib.rt:43:25
 signatures-requires : tie.Need-signatures-requires
 signatures-requires c κs = search needs
 
--- src/lib.rt:45:35
 enum-known-third : tie.Need-enum-known-third
 enum-known-third c = search needs
 
--- src/lib.rt:46:32
 enum-known-third-2 : tie.Need-enum-known-third-2
 enum-known-third-2 c = search needs
 
--- src/lib.rt:46:38
 functions-requires : tie.Need-functions-requires
 functions-requires c κs = search needs
 
--- src/lib.rt:32:1
 returns : tie.Need-returns
 unfolding partsAt
 returns c =
     let x = sym (c .before .before .before .sizes .ensures) ∙ c .before .first .given .1 in
     simp x
 
--- src/lib.rt:32:1
 returns-2 : tie.Need-returns-2
 unfolding partsAt
 returns-2 c =
@@ -65,7 +53,6 @@ returns-2 c =
     let y = sym (c .before .before .before .arrays .ensures) ∙ c .before .second .given .1 in
     simp (x, y)
 
--- src/lib.rt:32:1
 returns-3 : tie.Need-returns-3
 unfolding partsAt
 returns-3 c =
@@ -74,7 +61,6 @@ returns-3 c =
     let s = sym (c .before .before .before .signatures .ensures) ∙ c .before .third .given .1 in
     simp (x, y, s)
 
--- src/lib.rt:32:1
 returns-4 : tie.Need-returns-4
 unfolding partsAt
 returns-4 c =

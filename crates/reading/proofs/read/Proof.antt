@@ -1,4 +1,4 @@
-use mathlib.Core.Path.{_≡_, sym, _∙_}
+use mathlib.Core.Path.{sym, _∙_}
 use borrow.Author.Tests.{lt-ltb, le-ltb}
 use Rattle.reading.specs.Reading.{readAt}
 use borrow.Author.Needs.{needs}
@@ -9,30 +9,24 @@ use Rattle.reading.proofs.read.Lts as lts
 use Rattle.layout.proofs.sizes_of.Reads as sizes-of-reads
 use Rattle.reading.proofs.parts.Reads as parts-reads
 
--- src/lib.rt:21:9
 returns : tie.Need-returns
 unfolding readAt
 returns c =
     let h = c .if1 .taken in
     simp lt-ltb
 
--- src/lib.rt:23:9
 sizes-of-requires : tie.Need-sizes-of-requires
 sizes-of-requires c κs = search needs
 
--- src/lib.rt:24:9
 parts-requires : tie.Need-parts-requires
 parts-requires c κs = search needs
 
--- src/lib.rt:26:19
 enum-known-all : tie.Need-enum-known-all
 enum-known-all c = search needs
 
--- src/lib.rt:27:16
 enum-known-all-2 : tie.Need-enum-known-all-2
 enum-known-all-2 c = search needs
 
--- src/lib.rt:17:1
 returns-2 : tie.Need-returns-2
 unfolding readAt
 returns-2 c =
@@ -41,7 +35,6 @@ returns-2 c =
     let e = simp s at (sym (c .before .before .before .parts .ensures) ∙ c .before .all .given .1) in
     simp (e, le-ltb)
 
--- src/lib.rt:17:1
 returns-3 : tie.Need-returns-3
 unfolding readAt
 returns-3 c =

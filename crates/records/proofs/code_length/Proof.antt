@@ -6,92 +6,74 @@ use Rattle.records.proofs.code_length.Tie as tie
 use Rattle.records.proofs.code_length.Reads as reads
 use Rattle.records.proofs.code_length.Lts as lts
 
--- src/records.rt:19:1
 returns : tie.Need-returns
 unfolding codeLength
 returns c = (simp (c .match .keys1), omega arith)
 
--- src/records.rt:19:1
 returns-2 : tie.Need-returns-2
 unfolding codeLength
 returns-2 c = (simp (c .match .keys2), omega arith)
 
--- src/records.rt:19:1
 returns-3 : tie.Need-returns-3
 unfolding codeLength
 returns-3 c = (simp (c .match .keys3), omega arith)
 
--- src/records.rt:19:1
 returns-4 : tie.Need-returns-4
 unfolding codeLength
 returns-4 c = (simp (c .match .keys4), omega arith)
 
--- src/records.rt:19:1
 returns-5 : tie.Need-returns-5
 unfolding codeLength
 returns-5 c = (simp (c .match .keys5), omega arith)
 
--- src/records.rt:19:1
 returns-6 : tie.Need-returns-6
 unfolding codeLength
 returns-6 c = (simp (c .match .keys6), omega arith)
 
--- src/records.rt:19:1
 returns-7 : tie.Need-returns-7
 unfolding codeLength
 returns-7 c = (simp (c .match .keys7), omega arith)
 
--- src/records.rt:19:1
 returns-8 : tie.Need-returns-8
 unfolding codeLength
 returns-8 c = (simp (c .match .keys8), omega arith)
 
--- src/records.rt:19:1
 returns-9 : tie.Need-returns-9
 unfolding codeLength
 returns-9 c = (simp (c .match .keys9), omega arith)
 
--- src/records.rt:19:1
 returns-10 : tie.Need-returns-10
 unfolding codeLength
 returns-10 c = (simp (c .match .keys10), omega arith)
 
--- src/records.rt:19:1
 returns-11 : tie.Need-returns-11
 unfolding codeLength
 returns-11 c = (simp (c .match .keys11), omega arith)
 
--- src/records.rt:19:1
 returns-12 : tie.Need-returns-12
 unfolding codeLength
 returns-12 c = (simp (c .match .keys12), omega arith)
 
--- src/records.rt:19:1
 returns-13 : tie.Need-returns-13
 unfolding codeLength
 returns-13 c = (simp (c .match .keys13), omega arith)
 
--- src/records.rt:19:1
 returns-14 : tie.Need-returns-14
 unfolding codeLength
 returns-14 c = (simp (c .match .keys14), omega arith)
 
--- src/records.rt:19:1
 returns-15 : tie.Need-returns-15
 unfolding codeLength
 returns-15 c = (simp (c .match .keys15), omega arith)
 
--- src/records.rt:19:1
 returns-16 : tie.Need-returns-16
 unfolding codeLength
 returns-16 c = (simp (c .match .keys16), omega arith)
 
--- src/records.rt:19:1
 returns-17 : tie.Need-returns-17
 unfolding codeLength
 returns-17 c = (simp (c .match .keys17), omega arith)
 
--- src/records.rt:19:1
 returns-18 : tie.Need-returns-18
 unfolding codeLength
 returns-18 c =

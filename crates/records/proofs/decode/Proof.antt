@@ -12,38 +12,30 @@ use Rattle.records.proofs.decode.Lts as lts
 use Rattle.records.proofs.code_length.Reads as code-length-reads
 use Rattle.records.proofs.fields.Reads as fields-reads
 
--- src/records.rt:293:9
 returns : tie.Need-returns
 unfolding decodeAt
 returns c =
     let h1 = c .if1 .taken in
     simp le-leb
 
--- src/records.rt:295:16
 shared-slice-read-kind : tie.Need-shared-slice-read-kind
 shared-slice-read-kind c = search needs
 
--- src/records.rt:296:9
 code-length-requires : tie.Need-code-length-requires
 code-length-requires c κs = search needs
 
--- src/records.rt:298:9
 returns-2 : tie.Need-returns-2
 returns-2 c = sym (decode-none (c .before .before .before .before .before .args .z) (c .before .before .before .before .before .args .t .now) (c .before .before .before .before .before .args .at) (c .before .before .before .if1 .left) (sym (c .before .code-length .ensures .0) ∙ c .if2 .taken))
 
--- src/records.rt:300:8
 sub-if3 : tie.Need-sub-if3
 sub-if3 c = search needs
 
--- src/records.rt:301:9
 returns-3 : tie.Need-returns-3
 returns-3 c = sym (decode-short (c .before .before .before .before .before .before .args .z) (c .before .before .before .before .before .before .args .t .now) (c .before .before .before .before .before .before .args .at) (c .before .before .before .before .if1 .left) (subst (λ (n : ℕ). length (c .before .before .before .before .before .before .args .t .now) - c .before .before .before .before .before .before .args .at < n) (c .before .before .code-length .ensures .0) (c .if3 .taken)))
 
--- src/records.rt:303:5
 fields-requires : tie.Need-fields-requires
 fields-requires c κs = search needs
 
--- src/records.rt:289:1
 returns-4 : tie.Need-returns-4
 unfolding decodeAt
 returns-4 c =

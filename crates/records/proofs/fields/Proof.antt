@@ -24,171 +24,136 @@ use Rattle.records.proofs.read_store_fixed.Reads as read-store-fixed-re
 use Rattle.records.proofs.read_update.Reads as read-update-reads
 use Rattle.records.proofs.read_while.Reads as read-while-reads
 
--- src/records.rt:312:15
 read-const-requires : tie.Need-read-const-requires
 unfolding codeLength
 read-const-requires c κs =
     subst (λ (k : ℕ). c .before .before .args .at + codeLength k ≤ length (c .before .before .args .t .now)) (c .match .keys1) (c .before .before .pre .1)
 
--- src/records.rt:313:15
 read-op-requires : tie.Need-read-op-requires
 unfolding codeLength
 read-op-requires c κs =
     subst (λ (k : ℕ). c .before .before .args .at + codeLength k ≤ length (c .before .before .args .t .now)) (c .match .keys2) (c .before .before .pre .1)
 
--- src/records.rt:314:15
 read-select-requires : tie.Need-read-select-requires
 unfolding codeLength
 read-select-requires c κs =
     subst (λ (k : ℕ). c .before .before .args .at + codeLength k ≤ length (c .before .before .args .t .now)) (c .match .keys3) (c .before .before .pre .1)
 
--- src/records.rt:315:15
 read-load-requires : tie.Need-read-load-requires
 unfolding codeLength
 read-load-requires c κs =
     subst (λ (k : ℕ). c .before .before .args .at + codeLength k ≤ length (c .before .before .args .t .now)) (c .match .keys4) (c .before .before .pre .1)
 
--- src/records.rt:316:15
 read-store-requires : tie.Need-read-store-requires
 unfolding codeLength
 read-store-requires c κs =
     subst (λ (k : ℕ). c .before .before .args .at + codeLength k ≤ length (c .before .before .args .t .now)) (c .match .keys5) (c .before .before .pre .1)
 
--- src/records.rt:317:54
 add-t8 : tie.Need-add-t8
 add-t8 c = search needs
 
--- src/records.rt:318:15
 read-update-requires : tie.Need-read-update-requires
 unfolding codeLength
 read-update-requires c κs =
     subst (λ (k : ℕ). c .before .before .args .at + codeLength k ≤ length (c .before .before .args .t .now)) (c .match .keys7) (c .before .before .pre .1)
 
--- src/records.rt:319:15
 read-protect-requires : tie.Need-read-protect-requires
 unfolding codeLength
 read-protect-requires c κs =
     subst (λ (k : ℕ). c .before .before .args .at + codeLength k ≤ length (c .before .before .args .t .now)) (c .match .keys8) (c .before .before .pre .1)
 
--- src/records.rt:320:15
 read-call-requires : tie.Need-read-call-requires
 unfolding codeLength
 read-call-requires c κs =
     subst (λ (k : ℕ). c .before .before .args .at + codeLength k ≤ length (c .before .before .args .t .now)) (c .match .keys9) (c .before .before .pre .1)
 
--- src/records.rt:321:15
 read-load-fixed-requires : tie.Need-read-load-fixed-requires
 unfolding codeLength
 read-load-fixed-requires c κs =
     subst (λ (k : ℕ). c .before .before .args .at + codeLength k ≤ length (c .before .before .args .t .now)) (c .match .keys10) (c .before .before .pre .1)
 
--- src/records.rt:322:15
 read-store-fixed-requires : tie.Need-read-store-fixed-requires
 unfolding codeLength
 read-store-fixed-requires c κs =
     subst (λ (k : ℕ). c .before .before .args .at + codeLength k ≤ length (c .before .before .args .t .now)) (c .match .keys11) (c .before .before .pre .1)
 
--- src/records.rt:321:15
 read-if-requires : tie.Need-read-if-requires
 unfolding codeLength
 read-if-requires c κs =
     subst (λ (k : ℕ). c .before .before .args .at + codeLength k ≤ length (c .before .before .args .t .now)) (c .match .keys12) (c .before .before .pre .1)
 
--- src/records.rt:322:15
 read-else-requires : tie.Need-read-else-requires
 unfolding codeLength
 read-else-requires c κs =
     subst (λ (k : ℕ). c .before .before .args .at + codeLength k ≤ length (c .before .before .args .t .now)) (c .match .keys13) (c .before .before .pre .1)
 
--- src/records.rt:323:43
 add-t10 : tie.Need-add-t10
 add-t10 c = search needs
 
--- src/records.rt:324:15
 read-while-requires : tie.Need-read-while-requires
 unfolding codeLength
 read-while-requires c κs =
     subst (λ (k : ℕ). c .before .before .args .at + codeLength k ≤ length (c .before .before .args .t .now)) (c .match .keys15) (c .before .before .pre .1)
 
--- src/records.rt:325:15
 read-endwhile-requires : tie.Need-read-endwhile-requires
 unfolding codeLength
 read-endwhile-requires c κs =
     subst (λ (k : ℕ). c .before .before .args .at + codeLength k ≤ length (c .before .before .args .t .now)) (c .match .keys16) (c .before .before .pre .1)
 
--- src/records.rt:326:44
 add-t12 : tie.Need-add-t12
 add-t12 c = search needs
 
--- src/records.rt:307:1
 returns : tie.Need-returns
 returns c = rw (c .before .match .keys1) (c .read-const .ensures)
 
--- src/records.rt:307:1
 returns-2 : tie.Need-returns-2
 returns-2 c = rw (c .before .match .keys2) (c .read-op .ensures)
 
--- src/records.rt:307:1
 returns-3 : tie.Need-returns-3
 returns-3 c = rw (c .before .match .keys3) (c .read-select .ensures)
 
--- src/records.rt:307:1
 returns-4 : tie.Need-returns-4
 returns-4 c = rw (c .before .match .keys4) (c .read-load .ensures)
 
--- src/records.rt:307:1
 returns-5 : tie.Need-returns-5
 returns-5 c = rw (c .before .match .keys5) (c .read-store .ensures)
 
--- src/records.rt:307:1
 returns-6 : tie.Need-returns-6
 returns-6 c = rw (c .match .keys6) (sym (row-init (c .before .before .args .z) (c .before .before .args .t .now) (c .before .before .args .at) (c .before .before .pre .0)))
 
--- src/records.rt:307:1
 returns-7 : tie.Need-returns-7
 returns-7 c = rw (c .before .match .keys7) (c .read-update .ensures)
 
--- src/records.rt:307:1
 returns-8 : tie.Need-returns-8
 returns-8 c = rw (c .before .match .keys8) (c .read-protect .ensures)
 
--- src/records.rt:307:1
 returns-9 : tie.Need-returns-9
 returns-9 c = rw (c .before .match .keys9) (c .read-call .ensures)
 
--- src/records.rt:307:1
 returns-10 : tie.Need-returns-10
 returns-10 c = rw (c .before .match .keys10) (c .read-load-fixed .ensures)
 
--- src/records.rt:307:1
 returns-11 : tie.Need-returns-11
 returns-11 c = rw (c .before .match .keys11) (c .read-store-fixed .ensures)
 
--- src/records.rt:307:1
 returns-12 : tie.Need-returns-12
 returns-12 c = rw (c .before .match .keys12) (c .read-if .ensures)
 
--- src/records.rt:307:1
 returns-13 : tie.Need-returns-13
 returns-13 c = rw (c .before .match .keys13) (c .read-else .ensures)
 
--- src/records.rt:307:1
 returns-14 : tie.Need-returns-14
 returns-14 c = rw (c .match .keys14) (sym (row-endif (c .before .before .args .z) (c .before .before .args .t .now) (c .before .before .args .at) (c .before .before .pre .0)))
 
--- src/records.rt:307:1
 returns-15 : tie.Need-returns-15
 returns-15 c = rw (c .before .match .keys15) (c .read-while .ensures)
 
--- src/records.rt:307:1
 returns-16 : tie.Need-returns-16
 returns-16 c = rw (c .before .match .keys16) (c .read-endwhile .ensures)
 
--- src/records.rt:307:1
 returns-17 : tie.Need-returns-17
 returns-17 c = rw (c .match .keys17) (sym (row-return (c .before .before .args .z) (c .before .before .args .t .now) (c .before .before .args .at) (c .before .before .pre .0)))
 
--- src/records.rt:307:1
 returns-18 : tie.Need-returns-18
 unfolding rowAt
 returns-18 c =

@@ -5,11 +5,9 @@ use Rattle.records.proofs.has_word.Reads as reads
 use Rattle.records.proofs.has_word.Lts as lts
 use Rattle.layout.proofs.words_at.Reads as words-at-reads
 
--- src/lib.rt:225:9
 words-at-requires : tie.Need-words-at-requires
 words-at-requires c κs = search needs
 
--- src/lib.rt:222:1
 returns : tie.Need-returns
 returns c = simp (c .words-at .ensures .0)
 

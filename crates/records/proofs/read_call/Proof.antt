@@ -7,30 +7,24 @@ use Rattle.records.proofs.read_call.Tie as tie
 use Rattle.records.proofs.read_call.Reads as reads
 use Rattle.records.proofs.read_call.Lts as lts
 
--- src/records.rt:227:22
 add-function : tie.Need-add-function
 add-function c = search needs
 
--- src/records.rt:227:20
 shared-slice-read-function : tie.Need-shared-slice-read-function
 shared-slice-read-function c = search needs
 
--- src/records.rt:228:18
 add-mark : tie.Need-add-mark
 add-mark c = search needs
 
--- src/records.rt:228:16
 shared-slice-read-mark : tie.Need-shared-slice-read-mark
 shared-slice-read-mark c = search needs
 
--- src/records.rt:230:9
 returns : tie.Need-returns
 unfolding rowAt
 returns c =
     let h1 = c .if1 .taken in
     simp (whole (c .before .before .before .before .args .t .now) (c .before .before .before .before .args .at) 3 (c .before .before .before .before .pre), lt-ltb, le-ltb)
 
--- src/records.rt:233:9
 returns-2 : tie.Need-returns-2
 unfolding rowAt
 returns-2 c =
@@ -38,11 +32,9 @@ returns-2 c =
     let h2 = c .before .if1 .left in
     simp (whole (c .before .before .before .before .before .args .t .now) (c .before .before .before .before .before .args .at) 3 (c .before .before .before .before .before .pre), lt-ltb, le-ltb)
 
--- src/records.rt:240:9
 add-t6 : tie.Need-add-t6
 add-t6 c = search needs
 
--- src/records.rt:223:1
 returns-3 : tie.Need-returns-3
 unfolding rowAt
 returns-3 c =

@@ -8,34 +8,27 @@ use Rattle.records.proofs.read_const.Reads as reads
 use Rattle.records.proofs.read_const.Lts as lts
 use Rattle.format.proofs.word_at.Reads as word-at-reads
 
--- src/records.rt:72:18
 add-dest : tie.Need-add-dest
 add-dest c = search needs
 
--- src/records.rt:72:16
 shared-slice-read-dest : tie.Need-shared-slice-read-dest
 shared-slice-read-dest c = search needs
 
--- src/records.rt:73:25
 add-word-at : tie.Need-add-word-at
 add-word-at c = search needs
 
--- src/records.rt:73:9
 word-at-requires : tie.Need-word-at-requires
 word-at-requires c κs = search needs
 
--- src/records.rt:75:9
 returns : tie.Need-returns
 unfolding rowAt
 returns c =
     let h1 = c .if1 .taken in
     simp (whole (c .before .before .before .before .before .args .t .now) (c .before .before .before .before .before .args .at) 6 (c .before .before .before .before .before .pre), c .before .before .word-at .ensures, lt-ltb, le-ltb)
 
--- src/records.rt:77:61
 add-t6 : tie.Need-add-t6
 add-t6 c = search needs
 
--- src/records.rt:68:1
 returns-2 : tie.Need-returns-2
 unfolding rowAt
 returns-2 c =

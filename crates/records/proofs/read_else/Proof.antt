@@ -7,19 +7,15 @@ use Rattle.records.proofs.read_else.Reads as reads
 use Rattle.records.proofs.read_else.Lts as lts
 use Rattle.format.proofs.place_at.Reads as place-at-reads
 
--- src/records.rt:260:26
 add-place-at : tie.Need-add-place-at
 add-place-at c = search needs
 
--- src/records.rt:260:9
 place-at-requires : tie.Need-place-at-requires
 place-at-requires c κs = search needs
 
--- src/records.rt:261:39
 add-t5 : tie.Need-add-t5
 add-t5 c = search needs
 
--- src/records.rt:256:1
 returns : tie.Need-returns
 unfolding rowAt
 returns c =

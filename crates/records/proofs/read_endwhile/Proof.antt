@@ -7,19 +7,15 @@ use Rattle.records.proofs.read_endwhile.Reads as reads
 use Rattle.records.proofs.read_endwhile.Lts as lts
 use Rattle.format.proofs.place_at.Reads as place-at-reads
 
--- src/records.rt:284:26
 add-place-at : tie.Need-add-place-at
 add-place-at c = search needs
 
--- src/records.rt:284:9
 place-at-requires : tie.Need-place-at-requires
 place-at-requires c κs = search needs
 
--- src/records.rt:285:43
 add-t5 : tie.Need-add-t5
 add-t5 c = search needs
 
--- src/records.rt:280:1
 returns : tie.Need-returns
 unfolding rowAt
 returns c =

@@ -8,34 +8,27 @@ use Rattle.records.proofs.read_if.Reads as reads
 use Rattle.records.proofs.read_if.Lts as lts
 use Rattle.format.proofs.place_at.Reads as place-at-reads
 
--- src/records.rt:248:22
 add-register : tie.Need-add-register
 add-register c = search needs
 
--- src/records.rt:248:20
 shared-slice-read-register : tie.Need-shared-slice-read-register
 shared-slice-read-register c = search needs
 
--- src/records.rt:249:26
 add-place-at : tie.Need-add-place-at
 add-place-at c = search needs
 
--- src/records.rt:249:9
 place-at-requires : tie.Need-place-at-requires
 place-at-requires c κs = search needs
 
--- src/records.rt:251:9
 returns : tie.Need-returns
 unfolding rowAt
 returns c =
     let h1 = c .if1 .taken in
     simp (whole (c .before .before .before .before .before .args .t .now) (c .before .before .before .before .before .args .at) 4 (c .before .before .before .before .before .pre), c .before .before .place-at .ensures .0, lt-ltb, le-ltb)
 
--- src/records.rt:253:47
 add-t6 : tie.Need-add-t6
 add-t6 c = search needs
 
--- src/records.rt:244:1
 returns-2 : tie.Need-returns-2
 unfolding rowAt
 returns-2 c =

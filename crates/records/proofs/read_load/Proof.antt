@@ -7,38 +7,30 @@ use Rattle.records.proofs.read_load.Tie as tie
 use Rattle.records.proofs.read_load.Reads as reads
 use Rattle.records.proofs.read_load.Lts as lts
 
--- src/records.rt:146:18
 add-dest : tie.Need-add-dest
 add-dest c = search needs
 
--- src/records.rt:146:16
 shared-slice-read-dest : tie.Need-shared-slice-read-dest
 shared-slice-read-dest c = search needs
 
--- src/records.rt:147:19
 add-array : tie.Need-add-array
 add-array c = search needs
 
--- src/records.rt:147:17
 shared-slice-read-array : tie.Need-shared-slice-read-array
 shared-slice-read-array c = search needs
 
--- src/records.rt:148:19
 add-index : tie.Need-add-index
 add-index c = search needs
 
--- src/records.rt:148:17
 shared-slice-read-index : tie.Need-shared-slice-read-index
 shared-slice-read-index c = search needs
 
--- src/records.rt:150:9
 returns : tie.Need-returns
 unfolding rowAt
 returns c =
     let h1 = c .if1 .taken in
     simp (whole (c .before .before .before .before .before .args .t .now) (c .before .before .before .before .before .args .at) 4 (c .before .before .before .before .before .pre), lt-ltb, le-ltb)
 
--- src/records.rt:153:9
 returns-2 : tie.Need-returns-2
 unfolding rowAt
 returns-2 c =
@@ -46,7 +38,6 @@ returns-2 c =
     let h2 = c .before .before .if1 .left in
     simp (whole (c .before .before .before .before .before .before .before .args .t .now) (c .before .before .before .before .before .before .before .args .at) 4 (c .before .before .before .before .before .before .before .pre), lt-ltb, le-ltb)
 
--- src/records.rt:156:9
 returns-3 : tie.Need-returns-3
 unfolding rowAt
 returns-3 c =
@@ -55,11 +46,9 @@ returns-3 c =
     let h3 = c .before .before .before .before .if1 .left in
     simp (whole (c .before .before .before .before .before .before .before .before .before .args .t .now) (c .before .before .before .before .before .before .before .before .before .args .at) 4 (c .before .before .before .before .before .before .before .before .before .pre), lt-ltb, le-ltb)
 
--- src/records.rt:158:67
 add-t7 : tie.Need-add-t7
 add-t7 c = search needs
 
--- src/records.rt:142:1
 returns-4 : tie.Need-returns-4
 unfolding rowAt
 returns-4 c =

@@ -7,46 +7,36 @@ use Rattle.records.proofs.read_op.Tie as tie
 use Rattle.records.proofs.read_op.Reads as reads
 use Rattle.records.proofs.read_op.Lts as lts
 
--- src/records.rt:84:18
 add-dest : tie.Need-add-dest
 add-dest c = search needs
 
--- src/records.rt:84:16
 shared-slice-read-dest : tie.Need-shared-slice-read-dest
 shared-slice-read-dest c = search needs
 
--- src/records.rt:85:16
 add-op : tie.Need-add-op
 add-op c = search needs
 
--- src/records.rt:85:14
 shared-slice-read-op : tie.Need-shared-slice-read-op
 shared-slice-read-op c = search needs
 
--- src/records.rt:86:18
 add-left : tie.Need-add-left
 add-left c = search needs
 
--- src/records.rt:86:16
 shared-slice-read-left : tie.Need-shared-slice-read-left
 shared-slice-read-left c = search needs
 
--- src/records.rt:87:19
 add-right : tie.Need-add-right
 add-right c = search needs
 
--- src/records.rt:87:17
 shared-slice-read-right : tie.Need-shared-slice-read-right
 shared-slice-read-right c = search needs
 
--- src/records.rt:89:9
 returns : tie.Need-returns
 unfolding rowAt
 returns c =
     let h1 = c .if1 .taken in
     simp (whole (c .before .before .before .before .before .before .args .t .now) (c .before .before .before .before .before .before .args .at) 5 (c .before .before .before .before .before .before .pre), lt-ltb, le-ltb)
 
--- src/records.rt:92:9
 returns-2 : tie.Need-returns-2
 unfolding rowAt
 returns-2 c =
@@ -54,7 +44,6 @@ returns-2 c =
     let h2 = c .before .if1 .left in
     simp (whole (c .before .before .before .before .before .before .before .args .t .now) (c .before .before .before .before .before .before .before .args .at) 5 (c .before .before .before .before .before .before .before .pre), lt-ltb, le-ltb)
 
--- src/records.rt:95:9
 returns-3 : tie.Need-returns-3
 unfolding rowAt
 returns-3 c =
@@ -63,7 +52,6 @@ returns-3 c =
     let h3 = c .before .before .before .if1 .left in
     simp (whole (c .before .before .before .before .before .before .before .before .before .args .t .now) (c .before .before .before .before .before .before .before .before .before .args .at) 5 (c .before .before .before .before .before .before .before .before .before .pre), lt-ltb, le-ltb)
 
--- src/records.rt:98:9
 returns-4 : tie.Need-returns-4
 unfolding rowAt
 returns-4 c =
@@ -73,11 +61,9 @@ returns-4 c =
     let h4 = c .before .before .before .before .before .if1 .left in
     simp (whole (c .before .before .before .before .before .before .before .before .before .before .before .args .t .now) (c .before .before .before .before .before .before .before .before .before .before .before .args .at) 5 (c .before .before .before .before .before .before .before .before .before .before .before .pre), lt-ltb, le-ltb)
 
--- src/records.rt:107:9
 add-t8 : tie.Need-add-t8
 add-t8 c = search needs
 
--- src/records.rt:80:1
 returns-5 : tie.Need-returns-5
 unfolding rowAt
 returns-5 c =

@@ -7,30 +7,24 @@ use Rattle.records.proofs.read_protect.Tie as tie
 use Rattle.records.proofs.read_protect.Reads as reads
 use Rattle.records.proofs.read_protect.Lts as lts
 
--- src/records.rt:212:18
 add-dest : tie.Need-add-dest
 add-dest c = search needs
 
--- src/records.rt:212:16
 shared-slice-read-dest : tie.Need-shared-slice-read-dest
 shared-slice-read-dest c = search needs
 
--- src/records.rt:213:20
 add-source : tie.Need-add-source
 add-source c = search needs
 
--- src/records.rt:213:18
 shared-slice-read-source : tie.Need-shared-slice-read-source
 shared-slice-read-source c = search needs
 
--- src/records.rt:215:9
 returns : tie.Need-returns
 unfolding rowAt
 returns c =
     let h1 = c .if1 .taken in
     simp (whole (c .before .before .before .before .args .t .now) (c .before .before .before .before .args .at) 3 (c .before .before .before .before .pre), lt-ltb, le-ltb)
 
--- src/records.rt:218:9
 returns-2 : tie.Need-returns-2
 unfolding rowAt
 returns-2 c =
@@ -38,11 +32,9 @@ returns-2 c =
     let h2 = c .before .before .if1 .left in
     simp (whole (c .before .before .before .before .before .before .args .t .now) (c .before .before .before .before .before .before .args .at) 3 (c .before .before .before .before .before .before .pre), lt-ltb, le-ltb)
 
--- src/records.rt:220:64
 add-t6 : tie.Need-add-t6
 add-t6 c = search needs
 
--- src/records.rt:208:1
 returns-3 : tie.Need-returns-3
 unfolding rowAt
 returns-3 c =

@@ -7,46 +7,36 @@ use Rattle.records.proofs.read_select.Tie as tie
 use Rattle.records.proofs.read_select.Reads as reads
 use Rattle.records.proofs.read_select.Lts as lts
 
--- src/records.rt:115:18
 add-dest : tie.Need-add-dest
 add-dest c = search needs
 
--- src/records.rt:115:16
 shared-slice-read-dest : tie.Need-shared-slice-read-dest
 shared-slice-read-dest c = search needs
 
--- src/records.rt:116:18
 add-cond : tie.Need-add-cond
 add-cond c = search needs
 
--- src/records.rt:116:16
 shared-slice-read-cond : tie.Need-shared-slice-read-cond
 shared-slice-read-cond c = search needs
 
--- src/records.rt:117:17
 add-yes : tie.Need-add-yes
 add-yes c = search needs
 
--- src/records.rt:117:15
 shared-slice-read-yes : tie.Need-shared-slice-read-yes
 shared-slice-read-yes c = search needs
 
--- src/records.rt:118:16
 add-no : tie.Need-add-no
 add-no c = search needs
 
--- src/records.rt:118:14
 shared-slice-read-no : tie.Need-shared-slice-read-no
 shared-slice-read-no c = search needs
 
--- src/records.rt:120:9
 returns : tie.Need-returns
 unfolding rowAt
 returns c =
     let h1 = c .if1 .taken in
     simp (whole (c .before .before .before .before .before .before .args .t .now) (c .before .before .before .before .before .before .args .at) 5 (c .before .before .before .before .before .before .pre), lt-ltb, le-ltb)
 
--- src/records.rt:123:9
 returns-2 : tie.Need-returns-2
 unfolding rowAt
 returns-2 c =
@@ -54,7 +44,6 @@ returns-2 c =
     let h2 = c .before .before .if1 .left in
     simp (whole (c .before .before .before .before .before .before .before .before .args .t .now) (c .before .before .before .before .before .before .before .before .args .at) 5 (c .before .before .before .before .before .before .before .before .pre), lt-ltb, le-ltb)
 
--- src/records.rt:126:9
 returns-3 : tie.Need-returns-3
 unfolding rowAt
 returns-3 c =
@@ -63,7 +52,6 @@ returns-3 c =
     let h3 = c .before .before .before .before .if1 .left in
     simp (whole (c .before .before .before .before .before .before .before .before .before .before .args .t .now) (c .before .before .before .before .before .before .before .before .before .before .args .at) 5 (c .before .before .before .before .before .before .before .before .before .before .pre), lt-ltb, le-ltb)
 
--- src/records.rt:129:9
 returns-4 : tie.Need-returns-4
 unfolding rowAt
 returns-4 c =
@@ -73,11 +61,9 @@ returns-4 c =
     let h4 = c .before .before .before .before .before .before .if1 .left in
     simp (whole (c .before .before .before .before .before .before .before .before .before .before .before .before .args .t .now) (c .before .before .before .before .before .before .before .before .before .before .before .before .args .at) 5 (c .before .before .before .before .before .before .before .before .before .before .before .before .pre), lt-ltb, le-ltb)
 
--- src/records.rt:138:9
 add-t8 : tie.Need-add-t8
 add-t8 c = search needs
 
--- src/records.rt:111:1
 returns-5 : tie.Need-returns-5
 unfolding rowAt
 returns-5 c =

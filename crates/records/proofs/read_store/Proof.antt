@@ -7,38 +7,30 @@ use Rattle.records.proofs.read_store.Tie as tie
 use Rattle.records.proofs.read_store.Reads as reads
 use Rattle.records.proofs.read_store.Lts as lts
 
--- src/records.rt:165:19
 add-array : tie.Need-add-array
 add-array c = search needs
 
--- src/records.rt:165:17
 shared-slice-read-array : tie.Need-shared-slice-read-array
 shared-slice-read-array c = search needs
 
--- src/records.rt:166:19
 add-index : tie.Need-add-index
 add-index c = search needs
 
--- src/records.rt:166:17
 shared-slice-read-index : tie.Need-shared-slice-read-index
 shared-slice-read-index c = search needs
 
--- src/records.rt:167:20
 add-source : tie.Need-add-source
 add-source c = search needs
 
--- src/records.rt:167:18
 shared-slice-read-source : tie.Need-shared-slice-read-source
 shared-slice-read-source c = search needs
 
--- src/records.rt:169:9
 returns : tie.Need-returns
 unfolding rowAt
 returns c =
     let h1 = c .if1 .taken in
     simp (whole (c .before .before .before .before .before .args .t .now) (c .before .before .before .before .before .args .at) 4 (c .before .before .before .before .before .pre), lt-ltb, le-ltb)
 
--- src/records.rt:172:9
 returns-2 : tie.Need-returns-2
 unfolding rowAt
 returns-2 c =
@@ -46,7 +38,6 @@ returns-2 c =
     let h2 = c .before .before .if1 .left in
     simp (whole (c .before .before .before .before .before .before .before .args .t .now) (c .before .before .before .before .before .before .before .args .at) 4 (c .before .before .before .before .before .before .before .pre), lt-ltb, le-ltb)
 
--- src/records.rt:175:9
 returns-3 : tie.Need-returns-3
 unfolding rowAt
 returns-3 c =
@@ -55,11 +46,9 @@ returns-3 c =
     let h3 = c .before .before .before .before .if1 .left in
     simp (whole (c .before .before .before .before .before .before .before .before .before .args .t .now) (c .before .before .before .before .before .before .before .before .before .args .at) 4 (c .before .before .before .before .before .before .before .before .before .pre), lt-ltb, le-ltb)
 
--- src/records.rt:183:9
 add-t7 : tie.Need-add-t7
 add-t7 c = search needs
 
--- src/records.rt:161:1
 returns-4 : tie.Need-returns-4
 unfolding rowAt
 returns-4 c =

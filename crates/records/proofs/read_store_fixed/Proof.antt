@@ -10,42 +10,33 @@ use Rattle.records.proofs.read_store_fixed.Lts as lts
 use Rattle.format.proofs.place_at.Reads as place-at-reads
 use Rattle.records.proofs.has_word.Reads as has-word-reads
 
--- src/lib.rt:258:19
 add-array : tie.Need-add-array
 add-array c = search needs
 
--- src/lib.rt:258:17
 shared-slice-read-array : tie.Need-shared-slice-read-array
 shared-slice-read-array c = search needs
 
--- src/lib.rt:259:29
 add-place-at : tie.Need-add-place-at
 add-place-at c = search needs
 
--- src/lib.rt:259:9
 place-at-requires : tie.Need-place-at-requires
 place-at-requires c κs = search needs
 
--- src/lib.rt:260:20
 add-source : tie.Need-add-source
 add-source c = search needs
 
--- src/lib.rt:260:18
 shared-slice-read-source : tie.Need-shared-slice-read-source
 shared-slice-read-source c = search needs
 
--- src/lib.rt:262:9
 returns : tie.Need-returns
 unfolding rowAt
 returns c =
     let h1 = c .if1 .taken in
     simp (whole (c .before .before .before .before .before .before .args .t .now) (c .before .before .before .before .before .before .args .at) 5 (c .before .before .before .before .before .before .pre), c .before .before .before .place-at .ensures .0, lt-ltb, le-ltb)
 
--- src/lib.rt:264:9
 has-word-requires : tie.Need-has-word-requires
 has-word-requires c κs = search needs
 
--- src/lib.rt:265:9
 returns-2 : tie.Need-returns-2
 unfolding rowAt
 returns-2 c =
@@ -53,7 +44,6 @@ returns-2 c =
     let h1 = c .before .before .if1 .left in
     simp (whole (c .before .before .before .before .before .before .before .before .args .t .now) (c .before .before .before .before .before .before .before .before .args .at) 5 (c .before .before .before .before .before .before .before .before .pre), c .before .before .before .before .before .place-at .ensures .0, w, lt-ltb, le-ltb)
 
--- src/lib.rt:268:9
 returns-3 : tie.Need-returns-3
 unfolding rowAt
 returns-3 c =
@@ -62,15 +52,12 @@ returns-3 c =
     let h2 = c .before .before .before .before .if1 .left in
     simp (whole (c .before .before .before .before .before .before .before .before .before .before .args .t .now) (c .before .before .before .before .before .before .before .before .before .before .args .at) 5 (c .before .before .before .before .before .before .before .before .before .before .pre), c .before .before .before .before .before .before .before .place-at .ensures .0, w, lt-ltb, le-ltb)
 
--- src/lib.rt:273:20
 cast-t13 : tie.Need-cast-t13
 cast-t13 c = search needs
 
--- src/lib.rt:276:9
 add-t7 : tie.Need-add-t7
 add-t7 c = search needs
 
--- src/lib.rt:254:1
 returns-4 : tie.Need-returns-4
 unfolding rowAt
 returns-4 c =

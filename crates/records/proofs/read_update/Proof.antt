@@ -7,30 +7,24 @@ use Rattle.records.proofs.read_update.Tie as tie
 use Rattle.records.proofs.read_update.Reads as reads
 use Rattle.records.proofs.read_update.Lts as lts
 
--- src/records.rt:191:22
 add-register : tie.Need-add-register
 add-register c = search needs
 
--- src/records.rt:191:20
 shared-slice-read-register : tie.Need-shared-slice-read-register
 shared-slice-read-register c = search needs
 
--- src/records.rt:192:19
 add-sense : tie.Need-add-sense
 add-sense c = search needs
 
--- src/records.rt:192:17
 shared-slice-read-sense : tie.Need-shared-slice-read-sense
 shared-slice-read-sense c = search needs
 
--- src/records.rt:194:9
 returns : tie.Need-returns
 unfolding rowAt
 returns c =
     let h1 = c .if1 .taken in
     simp (whole (c .before .before .before .before .args .t .now) (c .before .before .before .before .args .at) 3 (c .before .before .before .before .pre), lt-ltb, le-ltb)
 
--- src/records.rt:197:9
 returns-2 : tie.Need-returns-2
 unfolding rowAt
 returns-2 c =
@@ -38,11 +32,9 @@ returns-2 c =
     let h2 = c .before .if1 .left in
     simp (whole (c .before .before .before .before .before .args .t .now) (c .before .before .before .before .before .args .at) 3 (c .before .before .before .before .before .pre), lt-ltb, le-ltb)
 
--- src/records.rt:204:9
 add-t6 : tie.Need-add-t6
 add-t6 c = search needs
 
--- src/records.rt:187:1
 returns-3 : tie.Need-returns-3
 unfolding rowAt
 returns-3 c =

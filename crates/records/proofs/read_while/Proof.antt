@@ -11,31 +11,24 @@ use Rattle.format.proofs.packed_at.Reads as packed-at-reads
 use Rattle.format.proofs.place_at.Reads as place-at-reads
 use Rattle.format.proofs.packed_in.Reads as packed-in-reads
 
--- src/records.rt:268:22
 add-register : tie.Need-add-register
 add-register c = search needs
 
--- src/records.rt:268:20
 shared-slice-read-register : tie.Need-shared-slice-read-register
 shared-slice-read-register c = search needs
 
--- src/records.rt:269:26
 add-place-at : tie.Need-add-place-at
 add-place-at c = search needs
 
--- src/records.rt:269:9
 place-at-requires : tie.Need-place-at-requires
 place-at-requires c κs = search needs
 
--- src/records.rt:270:28
 add-packed-at : tie.Need-add-packed-at
 add-packed-at c = search needs
 
--- src/records.rt:270:9
 packed-at-requires : tie.Need-packed-at-requires
 packed-at-requires c κs = search needs
 
--- src/records.rt:272:9
 returns : tie.Need-returns
 unfolding rowAt
 returns c =
@@ -43,11 +36,9 @@ returns c =
     let v = c .before .before .packed-at .ensures in
     simp (whole (c .before .before .before .before .before .before .args .t .now) (c .before .before .before .before .before .before .args .at) 11 (c .before .before .before .before .before .before .pre), c .before .before .before .place-at .ensures .0, v, lt-ltb, le-ltb)
 
--- src/records.rt:274:9
 packed-in-requires : tie.Need-packed-in-requires
 packed-in-requires c κs = search needs
 
--- src/records.rt:275:9
 returns-2 : tie.Need-returns-2
 unfolding rowAt
 returns-2 c =
@@ -56,11 +47,9 @@ returns-2 c =
     let e = simp v at (sym (c .before .packed-in .ensures) ∙ not-true _ (c .if2 .taken)) in
     simp (whole (c .before .before .before .before .before .before .before .before .args .t .now) (c .before .before .before .before .before .before .before .before .args .at) 11 (c .before .before .before .before .before .before .before .before .pre), c .before .before .before .before .before .place-at .ensures .0, v, e, lt-ltb, le-ltb)
 
--- src/records.rt:277:55
 add-t7 : tie.Need-add-t7
 add-t7 c = search needs
 
--- src/records.rt:264:1
 returns-3 : tie.Need-returns-3
 unfolding rowAt
 returns-3 c =

@@ -1,6 +1,6 @@
 use native.Mathlib.Omega.{arith}
 use Rattle.report.specs.Text.{decimal}
-use Rattle.report.specs.Lines.{accepted, functions, bytes, refused, at, end}
+use Rattle.report.specs.Lines.{accepted, functions, bytes}
 use Rattle.report.proofs.Written.{five}
 use borrow.Author.Needs.{needs}
 use Rattle.report.proofs.accepted.Statement.{statement}
@@ -10,43 +10,33 @@ use Rattle.report.proofs.accepted.Lts as lts
 use Rattle.report.proofs.text.put_bytes.Reads as put-bytes-reads
 use Rattle.report.proofs.text.put_decimal.Reads as put-decimal-reads
 
--- src/lib.rt:25:37
 slice-aggregate-put-bytes : tie.Need-slice-aggregate-put-bytes
 slice-aggregate-put-bytes c = search needs
 
--- src/lib.rt:25:9
 put-bytes-requires : tie.Need-put-bytes-requires
 put-bytes-requires c κs = search needs
 
--- src/lib.rt:26:9
 put-decimal-requires : tie.Need-put-decimal-requires
 put-decimal-requires c κs = search needs
 
--- src/lib.rt:27:37
 slice-aggregate-put-bytes-2 : tie.Need-slice-aggregate-put-bytes-2
 slice-aggregate-put-bytes-2 c = search needs
 
--- src/lib.rt:27:9
 put-bytes-requires-2 : tie.Need-put-bytes-requires-2
 put-bytes-requires-2 c κs = search needs
 
--- src/lib.rt:28:9
 put-decimal-requires-2 : tie.Need-put-decimal-requires-2
 put-decimal-requires-2 c κs = search needs
 
--- src/lib.rt:29:29
 slice-aggregate-put-bytes-3 : tie.Need-slice-aggregate-put-bytes-3
 slice-aggregate-put-bytes-3 c = search needs
 
--- src/lib.rt:29:5
 put-bytes-requires-3 : tie.Need-put-bytes-requires-3
 put-bytes-requires-3 c κs = search needs
 
--- src/lib.rt:22:1
 same-length : tie.Need-same-length
 same-length c = search needs
 
--- src/lib.rt:22:1
 returns : tie.Need-returns
 returns c =
     let k1 = c .before .before .before .before .before .before .before .before .before .before .before .before .before .before .before .before .before .before .before .before .put-bytes .ensures in

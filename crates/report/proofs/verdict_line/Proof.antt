@@ -6,35 +6,27 @@ use Rattle.report.proofs.verdict_line.Lts as lts
 use Rattle.report.proofs.accepted.Reads as accepted-reads
 use Rattle.report.proofs.refused.Reads as refused-reads
 
--- src/lib.rt:17:27
 enum-known-v : tie.Need-enum-known-v
 enum-known-v c = search needs
 
--- src/lib.rt:17:48
 accepted-requires : tie.Need-accepted-requires
 accepted-requires c κs = search needs
 
--- src/lib.rt:18:26
 enum-known-v-2 : tie.Need-enum-known-v-2
 enum-known-v-2 c = search needs
 
--- src/lib.rt:18:44
 refused-requires : tie.Need-refused-requires
 refused-requires c κs = search needs
 
--- src/lib.rt:13:1
 same-length : tie.Need-same-length
 same-length c = search needs
 
--- src/lib.rt:13:1
 returns : tie.Need-returns
 returns c = rw (c .before .before .before .before .before .v .given .1) (c .before .before .accepted .ensures)
 
--- src/lib.rt:13:1
 same-length-2 : tie.Need-same-length-2
 same-length-2 c = search needs
 
--- src/lib.rt:13:1
 returns-2 : tie.Need-returns-2
 returns-2 c = rw (c .before .before .before .before .before .v2 .given .1) (c .before .before .refused .ensures)
 

@@ -1,5 +1,5 @@
 use native.Mathlib.Omega.{arith}
-use mathlib.Core.Path.{_≡_, sym, _∙_}
+use mathlib.Core.Path.{sym, _∙_}
 use Rattle.typing.specs.Check.{checkAt}
 use Rattle.typing.proofs.Ready.{ready}
 use borrow.Author.Needs.{needs}
@@ -10,39 +10,31 @@ use Rattle.typing.proofs.check.Lts as lts
 use Rattle.reading.proofs.read.Reads as read-reads
 use Rattle.typing.proofs.walks.functions.Reads as functions-reads
 
--- src/lib.rt:37:9
 read-requires : tie.Need-read-requires
 read-requires c κs = search needs
 
--- src/lib.rt:39:25
 enum-known-a : tie.Need-enum-known-a
 enum-known-a c = search needs
 
--- src/lib.rt:40:23
 enum-known-a-2 : tie.Need-enum-known-a-2
 enum-known-a-2 c = search needs
 
--- src/lib.rt:42:17
 functions-requires : tie.Need-functions-requires
 functions-requires c κs =
     (ready _ _ (sym (c .before .before .before .read .ensures) ∙ c .before .a2 .given .1), omega arith)
 
--- src/lib.rt:44:64
 enum-told : tie.Need-enum-told
 enum-told c = search needs
 
--- src/lib.rt:45:31
 enum-known-w : tie.Need-enum-known-w
 enum-known-w c = search needs
 
--- src/lib.rt:34:1
 returns : tie.Need-returns
 unfolding checkAt
 returns c =
     let r = sym (c .before .before .before .read .ensures) ∙ c .before .a .given .1 in
     simp r
 
--- src/lib.rt:34:1
 returns-2 : tie.Need-returns-2
 unfolding checkAt
 returns-2 c =
@@ -50,7 +42,6 @@ returns-2 c =
     let w = sym (c .before .before .functions .ensures) ∙ c .enum-told .given .1 in
     simp (r, w)
 
--- src/lib.rt:34:1
 returns-3 : tie.Need-returns-3
 unfolding checkAt
 returns-3 c =

@@ -7,30 +7,24 @@ use Rattle.machine.proofs.bytes.back_at.Reads as reads
 use Rattle.machine.proofs.bytes.back_at.Lts as lts
 use Rattle.format.proofs.place_at.Reads as place-at-reads
 
--- src/bytes.rt:59:8
 sub-if1 : tie.Need-sub-if1
 sub-if1 c = search needs
 
--- src/bytes.rt:60:9
 returns : tie.Need-returns
 unfolding backAt
 returns c =
     let h1 = c .if1 .taken in
     simp (lt-ltb, le-ltb)
 
--- src/bytes.rt:62:37
 add-place-at : tie.Need-add-place-at
 add-place-at c = search needs
 
--- src/bytes.rt:62:9
 place-at-requires : tie.Need-place-at-requires
 place-at-requires c κs = search needs
 
--- src/bytes.rt:63:39
 add-t5 : tie.Need-add-t5
 add-t5 c = search needs
 
--- src/bytes.rt:55:1
 returns-2 : tie.Need-returns-2
 unfolding backAt
 returns-2 c =

@@ -6,26 +6,21 @@ use Rattle.machine.proofs.bytes.branch_at.Tie as tie
 use Rattle.machine.proofs.bytes.branch_at.Reads as reads
 use Rattle.machine.proofs.bytes.branch_at.Lts as lts
 
--- src/bytes.rt:33:8
 sub-if1 : tie.Need-sub-if1
 sub-if1 c = search needs
 
--- src/bytes.rt:34:9
 returns : tie.Need-returns
 unfolding branchAt
 returns c =
     let h1 = c .if1 .taken in
     simp (lt-ltb, le-ltb)
 
--- src/bytes.rt:36:17
 add-way : tie.Need-add-way
 add-way c = search needs
 
--- src/bytes.rt:36:15
 shared-slice-read-way : tie.Need-shared-slice-read-way
 shared-slice-read-way c = search needs
 
--- src/bytes.rt:38:9
 returns-2 : tie.Need-returns-2
 unfolding branchAt
 returns-2 c =
@@ -33,11 +28,9 @@ returns-2 c =
     let h2 = c .before .before .if1 .left in
     simp (lt-ltb, le-ltb)
 
--- src/bytes.rt:40:44
 add-t5 : tie.Need-add-t5
 add-t5 c = search needs
 
--- src/bytes.rt:29:1
 returns-3 : tie.Need-returns-3
 unfolding branchAt
 returns-3 c =

@@ -9,51 +9,41 @@ use Rattle.machine.proofs.bytes.back_at.Reads as back-at-reads
 use Rattle.machine.proofs.bytes.branch_at.Reads as branch-at-reads
 use Rattle.machine.proofs.bytes.stray_at.Reads as stray-at-reads
 
--- src/bytes.rt:19:16
 shared-slice-read-kind : tie.Need-shared-slice-read-kind
 shared-slice-read-kind c = search needs
 
--- src/bytes.rt:21:43
 add-t8 : tie.Need-add-t8
 add-t8 c = search needs
 
--- src/bytes.rt:22:15
 branch-at-requires : tie.Need-branch-at-requires
 branch-at-requires c κs = search needs
 
--- src/bytes.rt:23:15
 stray-at-requires : tie.Need-stray-at-requires
 stray-at-requires c κs = search needs
 
--- src/bytes.rt:24:15
 back-at-requires : tie.Need-back-at-requires
 back-at-requires c κs = search needs
 
--- src/bytes.rt:15:1
 returns : tie.Need-returns
 unfolding directiveAt
 returns c =
     simp (c .match .keys1)
 
--- src/bytes.rt:15:1
 returns-2 : tie.Need-returns-2
 unfolding directiveAt
 returns-2 c =
     simp (c .before .match .keys2) (c .branch-at .ensures)
 
--- src/bytes.rt:15:1
 returns-3 : tie.Need-returns-3
 unfolding directiveAt
 returns-3 c =
     simp (c .before .match .keys3) (c .stray-at .ensures)
 
--- src/bytes.rt:15:1
 returns-4 : tie.Need-returns-4
 unfolding directiveAt
 returns-4 c =
     simp (c .before .match .keys4) (c .back-at .ensures)
 
--- src/bytes.rt:15:1
 returns-5 : tie.Need-returns-5
 unfolding directiveAt
 returns-5 c =

@@ -18,26 +18,21 @@ Inv-loop d at₀ at = (at ≤ length d) × (k : ℕ) × (length d - at ≤ k) ×
 abbrev μ-loop : tie.MeasureT-loop
 μ-loop d at₀ at = length d - at
 
--- src/bytes.rt:71:9
 returns : tie.Need-returns Inv-loop μ-loop
 unfolding listAt
 returns c =
     let h = c .if1 .taken in
     simp lt-ltb
 
--- src/bytes.rt:74:5
 loop-holds : tie.Need-loop-holds Inv-loop μ-loop
 loop-holds c = (omega arith, length (c .before .before .args .d .now), omega arith, refl)
 
--- src/bytes.rt:75:13
 directive-at-requires : tie.Need-directive-at-requires Inv-loop μ-loop
 directive-at-requires c κs = search needs
 
--- src/bytes.rt:78:17
 enum-told : tie.Need-enum-told Inv-loop μ-loop
 enum-told c = search needs
 
--- src/bytes.rt:78:17
 returns-2 : tie.Need-returns-2 Inv-loop μ-loop
 unfolding listAt
 returns-2 c =
@@ -47,11 +42,9 @@ returns-2 c =
     let e = sym (c .before .before .directive-at .ensures) ∙ c .enum-told .given .1 in
     simp (le-ltb, L .inv .3, list-bad d (L .inv .1) (L .at) (c .before .before .before .loop-test .taken) (L .inv .2) e)
 
--- src/bytes.rt:80:23
 enum-known-told : tie.Need-enum-known-told Inv-loop μ-loop
 enum-known-told c = search needs
 
--- src/bytes.rt:74:5
 loop-less : tie.Need-loop-less Inv-loop μ-loop
 loop-less c =
     let d = c .before .before .before .before .before .before .before .before .args .d .now in
@@ -60,7 +53,6 @@ loop-less c =
     let o = directive-on d (L .at) (c .before .before .before .before .loop-test .taken) e in
     omega arith
 
--- src/bytes.rt:74:5
 loop-again : tie.Need-loop-again Inv-loop μ-loop
 loop-again c =
     let d = c .before .before .before .before .before .before .before .before .args .d .now in
@@ -70,7 +62,6 @@ loop-again c =
     let n = list-next d (L .inv .1) (L .at) l (L .inv .2) e in
     (directive-on d (L .at) l e .1, n .0, n .1, L .inv .3 ∙ n .2)
 
--- src/bytes.rt:67:1
 returns-3 : tie.Need-returns-3 Inv-loop μ-loop
 unfolding listAt
 returns-3 c =

@@ -6,19 +6,15 @@ use Rattle.machine.proofs.bytes.put.Tie as tie
 use Rattle.machine.proofs.bytes.put.Reads as reads
 use Rattle.machine.proofs.bytes.put.Lts as lts
 
--- src/bytes.rt:103:9
 slice-write-s : tie.Need-slice-write-s
 slice-write-s c = search needs
 
--- src/bytes.rt:99:1
 same-length : tie.Need-same-length
 same-length c = search needs
 
--- src/bytes.rt:99:1
 returns : tie.Need-returns
 returns c = search needs
 
--- src/bytes.rt:99:1
 returns-2 : tie.Need-returns-2
 returns-2 c = sym (set-out _ _ _ (c .if1 .left))
 

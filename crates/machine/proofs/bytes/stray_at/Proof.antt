@@ -7,38 +7,30 @@ use Rattle.machine.proofs.bytes.stray_at.Reads as reads
 use Rattle.machine.proofs.bytes.stray_at.Lts as lts
 use Rattle.format.proofs.place_at.Reads as place-at-reads
 
--- src/bytes.rt:47:8
 sub-if1 : tie.Need-sub-if1
 sub-if1 c = search needs
 
--- src/bytes.rt:48:9
 returns : tie.Need-returns
 unfolding strayAt
 returns c =
     let h1 = c .if1 .taken in
     simp (lt-ltb, le-ltb)
 
--- src/bytes.rt:50:19
 add-array : tie.Need-add-array
 add-array c = search needs
 
--- src/bytes.rt:50:17
 shared-slice-read-array : tie.Need-shared-slice-read-array
 shared-slice-read-array c = search needs
 
--- src/bytes.rt:51:37
 add-place-at : tie.Need-add-place-at
 add-place-at c = search needs
 
--- src/bytes.rt:51:9
 place-at-requires : tie.Need-place-at-requires
 place-at-requires c κs = search needs
 
--- src/bytes.rt:52:47
 add-t5 : tie.Need-add-t5
 add-t5 c = search needs
 
--- src/bytes.rt:43:1
 returns-2 : tie.Need-returns-2
 unfolding strayAt
 returns-2 c =

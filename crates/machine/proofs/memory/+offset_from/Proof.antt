@@ -24,7 +24,6 @@ abbrev offset-from-below : ℕ → In 1 offset-from-kinds.ps
 offset-from-below t =
     and 1 offset-from-kinds.ps (falls 1 offset-from-kinds.ps _<_ μ-offset-from t) offset-from.Pre
 
--- src/memory.rt:62:9
 offset-from-returns : (t : ℕ) → offset-from-lts.Need-returns (
   words-at-reads.Asked,
   words-at-reads.Learnt,
@@ -35,7 +34,6 @@ offset-from-returns t c =
     let A = c .before .before .args in
     (sym (offset-none (A .z) (A .t .now) (A .n) (A .b) (A .a) (c .if1 .taken)), omega arith)
 
--- src/memory.rt:65:9
 offset-from-returns-2 : (t : ℕ) → offset-from-lts.Need-returns-2 (
   words-at-reads.Asked,
   words-at-reads.Learnt,
@@ -46,7 +44,6 @@ offset-from-returns-2 t c =
     let A = c .before .before .before .args in
     (sym (offset-first (wordsFrom (A .z) (A .t .now) (A .n) (A .b)) (A .a) (c .if2 .taken)), omega arith)
 
--- src/memory.rt:67:5
 offset-from-words-at-requires : (t : ℕ) → offset-from-lts.Need-words-at-requires (
   words-at-reads.Asked,
   words-at-reads.Learnt,
@@ -55,7 +52,6 @@ offset-from-words-at-requires : (t : ℕ) → offset-from-lts.Need-words-at-requ
 ) (offset-from-at t) offset-from.Post
 offset-from-words-at-requires t c κs = search needs
 
--- src/memory.rt:67:51
 offset-from-sub-offset-from : (t : ℕ) → offset-from-lts.Need-sub-offset-from (
   words-at-reads.Asked,
   words-at-reads.Learnt,
@@ -64,7 +60,6 @@ offset-from-sub-offset-from : (t : ℕ) → offset-from-lts.Need-sub-offset-from
 ) (offset-from-at t) offset-from.Post
 offset-from-sub-offset-from t c = search needs
 
--- src/memory.rt:67:58
 offset-from-add-offset-from : (t : ℕ) → offset-from-lts.Need-add-offset-from (
   words-at-reads.Asked,
   words-at-reads.Learnt,
@@ -73,7 +68,6 @@ offset-from-add-offset-from : (t : ℕ) → offset-from-lts.Need-add-offset-from
 ) (offset-from-at t) offset-from.Post
 offset-from-add-offset-from t c = search needs
 
--- src/memory.rt:67:65
 offset-from-sub-offset-from-2 : (t : ℕ) → offset-from-lts.Need-sub-offset-from-2 (
   words-at-reads.Asked,
   words-at-reads.Learnt,
@@ -82,7 +76,6 @@ offset-from-sub-offset-from-2 : (t : ℕ) → offset-from-lts.Need-sub-offset-fr
 ) (offset-from-at t) offset-from.Post
 offset-from-sub-offset-from-2 t c = search needs
 
--- src/memory.rt:67:33
 offset-from-offset-from-requires : (t : ℕ) → offset-from-lts.Need-offset-from-requires (
   words-at-reads.Asked,
   words-at-reads.Learnt,
@@ -91,7 +84,6 @@ offset-from-offset-from-requires : (t : ℕ) → offset-from-lts.Need-offset-fro
 ) (offset-from-at t) offset-from.Post
 offset-from-offset-from-requires t c κs = search needs
 
--- src/memory.rt:67:5
 offset-from-add-result : (t : ℕ) → offset-from-lts.Need-add-result (
   words-at-reads.Asked,
   words-at-reads.Learnt,
@@ -100,7 +92,6 @@ offset-from-add-result : (t : ℕ) → offset-from-lts.Need-add-result (
 ) (offset-from-at t) offset-from.Post
 offset-from-add-result t c = search needs
 
--- src/memory.rt:57:1
 offset-from-returns-3 : (t : ℕ) → offset-from-lts.Need-returns-3 (
   words-at-reads.Asked,
   words-at-reads.Learnt,

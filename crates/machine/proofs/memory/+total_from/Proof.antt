@@ -23,7 +23,6 @@ abbrev total-from-below : ℕ → In 1 total-from-kinds.ps
 total-from-below t =
     and 1 total-from-kinds.ps (falls 1 total-from-kinds.ps _<_ μ-total-from t) total-from.Pre
 
--- src/memory.rt:40:9
 total-from-returns : (t : ℕ) → total-from-lts.Need-returns (
   words-at-reads.Asked,
   words-at-reads.Learnt,
@@ -34,7 +33,6 @@ total-from-returns t c =
     let A = c .before .before .args in
     (sym (total-none (A .z) (A .t .now) (A .n) (A .a) (c .if1 .taken)), omega arith)
 
--- src/memory.rt:42:5
 total-from-words-at-requires : (t : ℕ) → total-from-lts.Need-words-at-requires (
   words-at-reads.Asked,
   words-at-reads.Learnt,
@@ -43,7 +41,6 @@ total-from-words-at-requires : (t : ℕ) → total-from-lts.Need-words-at-requir
 ) (total-from-at t) total-from.Post
 total-from-words-at-requires t c κs = search needs
 
--- src/memory.rt:42:50
 total-from-sub-total-from : (t : ℕ) → total-from-lts.Need-sub-total-from (
   words-at-reads.Asked,
   words-at-reads.Learnt,
@@ -52,7 +49,6 @@ total-from-sub-total-from : (t : ℕ) → total-from-lts.Need-sub-total-from (
 ) (total-from-at t) total-from.Post
 total-from-sub-total-from t c = search needs
 
--- src/memory.rt:42:57
 total-from-add-total-from : (t : ℕ) → total-from-lts.Need-add-total-from (
   words-at-reads.Asked,
   words-at-reads.Learnt,
@@ -61,7 +57,6 @@ total-from-add-total-from : (t : ℕ) → total-from-lts.Need-add-total-from (
 ) (total-from-at t) total-from.Post
 total-from-add-total-from t c = search needs
 
--- src/memory.rt:42:33
 total-from-total-from-requires : (t : ℕ) → total-from-lts.Need-total-from-requires (
   words-at-reads.Asked,
   words-at-reads.Learnt,
@@ -70,7 +65,6 @@ total-from-total-from-requires : (t : ℕ) → total-from-lts.Need-total-from-re
 ) (total-from-at t) total-from.Post
 total-from-total-from-requires t c κs = search needs
 
--- src/memory.rt:42:5
 total-from-add-result : (t : ℕ) → total-from-lts.Need-add-result (
   words-at-reads.Asked,
   words-at-reads.Learnt,
@@ -79,7 +73,6 @@ total-from-add-result : (t : ℕ) → total-from-lts.Need-add-result (
 ) (total-from-at t) total-from.Post
 total-from-add-result t c = search needs
 
--- src/memory.rt:35:1
 total-from-returns-2 : (t : ℕ) → total-from-lts.Need-returns-2 (
   words-at-reads.Asked,
   words-at-reads.Learnt,

@@ -9,45 +9,35 @@ use Rattle.machine.proofs.memory.store.Reads as store-reads
 enum-told : tie.Need-enum-told
 enum-told c = search needs
 
--- src/memory.rt:111:26
 enum-known-e : tie.Need-enum-known-e
 enum-known-e c = search needs
 
--- src/memory.rt:111:45
 cast-put : tie.Need-cast-put
 cast-put c = search needs
 
--- src/memory.rt:111:35
 put-requires : tie.Need-put-requires
 put-requires c κs = search needs
 
--- src/memory.rt:112:22
 enum-known-e-2 : tie.Need-enum-known-e-2
 enum-known-e-2 c = search needs
 
--- src/memory.rt:112:34
 store-requires : tie.Need-store-requires
 store-requires c κs =
     let s = c .before .before .before .before .before .before .before in
     (simp (c .before .before .e2 .given .1) at (s .pre .0), s .pre .1)
 
--- src/memory.rt:105:1
 returns : tie.Need-returns
 returns c m = rw (c .enum-told .given .1)
 
--- src/memory.rt:105:1
 same-length : tie.Need-same-length
 same-length c = search needs
 
--- src/memory.rt:105:1
 returns-2 : tie.Need-returns-2
 returns-2 c m = rw (c .before .before .before .before .before .e .given .1, c .before .before .put .ensures)
 
--- src/memory.rt:105:1
 same-length-2 : tie.Need-same-length-2
 same-length-2 c = search needs
 
--- src/memory.rt:105:1
 returns-3 : tie.Need-returns-3
 returns-3 c m = rw (c .before .before .before .before .before .e2 .given .1, c .before .before .store .ensures)
 

@@ -6,19 +6,15 @@ use Rattle.machine.proofs.memory.fits.Reads as reads
 use Rattle.machine.proofs.memory.fits.Lts as lts
 use Rattle.machine.proofs.memory.total_from.Reads as total-from-reads
 
--- src/memory.rt:49:16
 cast-if1 : tie.Need-cast-if1
 cast-if1 c = search needs
 
--- src/memory.rt:50:9
 returns : tie.Need-returns
 returns c = rw (ne-eqb _ _ (c .if1 .taken))
 
--- src/memory.rt:52:9
 total-from-requires : tie.Need-total-from-requires
 total-from-requires c κs = search needs
 
--- src/memory.rt:46:1
 returns-2 : tie.Need-returns-2
 returns-2 c = rw (eq-eqb _ _ (c .before .if1 .left), c .total-from .ensures .0)
 

@@ -6,19 +6,15 @@ use Rattle.machine.proofs.memory.get.Tie as tie
 use Rattle.machine.proofs.memory.get.Reads as reads
 use Rattle.machine.proofs.memory.get.Lts as lts
 
--- src/memory.rt:21:16
 mul-result : tie.Need-mul-result
 mul-result c = search needs
 
--- src/memory.rt:21:16
 shared-slice-read-result : tie.Need-shared-slice-read-result
 shared-slice-read-result c = search needs
 
--- src/memory.rt:21:9
 returns : tie.Need-returns
 returns c = search needs
 
--- src/memory.rt:17:1
 returns-2 : tie.Need-returns-2
 returns-2 c = sym (List·getD-eq-default (c .before .args .s .now) 0 (c .if1 .left))
 

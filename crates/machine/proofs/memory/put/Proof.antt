@@ -6,23 +6,18 @@ use Rattle.machine.proofs.memory.put.Tie as tie
 use Rattle.machine.proofs.memory.put.Reads as reads
 use Rattle.machine.proofs.memory.put.Lts as lts
 
--- src/memory.rt:30:9
 mul-s : tie.Need-mul-s
 mul-s c = search needs
 
--- src/memory.rt:30:9
 slice-write-s : tie.Need-slice-write-s
 slice-write-s c = search needs
 
--- src/memory.rt:26:1
 same-length : tie.Need-same-length
 same-length c = search needs
 
--- src/memory.rt:26:1
 returns : tie.Need-returns
 returns c = search needs
 
--- src/memory.rt:26:1
 returns-2 : tie.Need-returns-2
 returns-2 c = sym (set-out _ _ _ (c .if1 .left))
 

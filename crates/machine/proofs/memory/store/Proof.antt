@@ -9,46 +9,36 @@ use Rattle.machine.proofs.memory.offset_of.Reads as offset-of-reads
 use Rattle.machine.proofs.memory.put.Reads as put-reads
 use Rattle.machine.proofs.memory.words_of.Reads as words-of-reads
 
--- src/memory.rt:99:9
 offset-of-requires : tie.Need-offset-of-requires
 offset-of-requires c κs = search needs
 
--- src/memory.rt:100:21
 words-of-requires : tie.Need-words-of-requires
 words-of-requires c κs = search needs
 
--- src/memory.rt:100:14
 add-to : tie.Need-add-to
 add-to c = search needs
 
--- src/memory.rt:101:9
 mul-put : tie.Need-mul-put
 mul-put c = search needs
 
--- src/memory.rt:101:9
 sub-put : tie.Need-sub-put
 sub-put c = search needs
 
--- src/memory.rt:101:9
 part-put-start : tie.Need-part-put-start
 part-put-start c = search needs
 
--- src/memory.rt:101:9
 part-put-end : tie.Need-part-put-end
 part-put-end c =
     let A = c .before .before .before .before .args in
     let e = array-end (wordsFrom (A .z) (A .t .now) (A .z .arrays) 0) (A .a) in
     rw (c .words-of .ensures .0, c .before .offset-of .ensures .0, c .before .before .before .before .pre .1) e
 
--- src/memory.rt:101:5
 put-requires : tie.Need-put-requires
 put-requires c κs = search needs
 
--- src/memory.rt:95:1
 same-length : tie.Need-same-length
 same-length c = search needs
 
--- src/memory.rt:95:1
 returns : tie.Need-returns
 returns c =
     let s = c .before .before .before .before .before .before .before .before in

@@ -7,19 +7,15 @@ use Rattle.machine.proofs.memory.word_at.Lts as lts
 use Rattle.machine.proofs.memory.get.Reads as get-reads
 use Rattle.machine.proofs.memory.offset_of.Reads as offset-of-reads
 
--- src/memory.rt:91:14
 offset-of-requires : tie.Need-offset-of-requires
 offset-of-requires c κs = search needs
 
--- src/memory.rt:91:14
 add-get : tie.Need-add-get
 add-get c = search needs
 
--- src/memory.rt:91:5
 get-requires : tie.Need-get-requires
 get-requires c κs = search needs
 
--- src/memory.rt:87:1
 returns : tie.Need-returns
 returns c = rw (sym (c .before .offset-of .ensures .0)) (c .get .ensures)
 

@@ -9,17 +9,14 @@ use Rattle.machine.proofs.memory.words_of.Reads as reads
 use Rattle.machine.proofs.memory.words_of.Lts as lts
 use Rattle.layout.proofs.words_at.Reads as words-at-reads
 
--- src/memory.rt:81:9
 words-at-requires : tie.Need-words-at-requires
 words-at-requires c κs = search needs
 
--- src/memory.rt:81:9
 returns : tie.Need-returns
 returns c =
     let A = c .before .before .before .before .args in
     (c .words-at .ensures .0 ∙ sym (words-first (A .z) (A .t .now) (A .z .arrays) (A .a) (c .before .if1 .taken)), c .words-at .ensures .1)
 
--- src/memory.rt:77:1
 returns-2 : tie.Need-returns-2
 returns-2 c =
     let A = c .before .before .before .args in

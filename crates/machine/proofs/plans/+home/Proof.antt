@@ -21,7 +21,6 @@ home-at t = and 1 home-kinds.ps (is 1 home-kinds.ps μ-home t) home.Pre
 abbrev home-below : ℕ → In 1 home-kinds.ps
 home-below t = and 1 home-kinds.ps (falls 1 home-kinds.ps _<_ μ-home t) home.Pre
 
--- src/plans.rt:430:9
 home-returns : (t : ℕ) → home-lts.Need-returns (
   start-of-reads.Asked,
   start-of-reads.Learnt,
@@ -30,7 +29,6 @@ home-returns : (t : ℕ) → home-lts.Need-returns (
 ) (home-at t) home.Post
 home-returns t c = home-none (startOf (c .before .before .args .z) (c .before .before .args .t .now)) (c .before .before .args .n) (c .before .before .args .p) (c .if1 .taken)
 
--- src/plans.rt:432:31
 home-sub-start-of : (t : ℕ) → home-lts.Need-sub-start-of (
   start-of-reads.Asked,
   start-of-reads.Learnt,
@@ -39,7 +37,6 @@ home-sub-start-of : (t : ℕ) → home-lts.Need-sub-start-of (
 ) (home-at t) home.Post
 home-sub-start-of t c = search needs
 
--- src/plans.rt:432:8
 home-start-of-requires : (t : ℕ) → home-lts.Need-start-of-requires (
   start-of-reads.Asked,
   start-of-reads.Learnt,
@@ -48,7 +45,6 @@ home-start-of-requires : (t : ℕ) → home-lts.Need-start-of-requires (
 ) (home-at t) home.Post
 home-start-of-requires t c κs = search needs
 
--- src/plans.rt:433:16
 home-sub-result : (t : ℕ) → home-lts.Need-sub-result (
   start-of-reads.Asked,
   start-of-reads.Learnt,
@@ -57,7 +53,6 @@ home-sub-result : (t : ℕ) → home-lts.Need-sub-result (
 ) (home-at t) home.Post
 home-sub-result t c = search needs
 
--- src/plans.rt:433:9
 home-returns-2 : (t : ℕ) → home-lts.Need-returns-2 (
   start-of-reads.Asked,
   start-of-reads.Learnt,
@@ -66,7 +61,6 @@ home-returns-2 : (t : ℕ) → home-lts.Need-returns-2 (
 ) (home-at t) home.Post
 home-returns-2 t c = home-here (startOf (c .before .before .before .before .args .z) (c .before .before .before .before .args .t .now)) (c .before .before .before .before .args .n) (c .before .before .before .before .args .p) (c .before .before .if1 .left) (subst (λ (i : ℕ). i ≤ c .before .before .before .before .args .p) (c .before .start-of .ensures .0) (c .if2 .taken))
 
--- src/plans.rt:435:16
 home-sub-home : (t : ℕ) → home-lts.Need-sub-home (
   start-of-reads.Asked,
   start-of-reads.Learnt,
@@ -75,7 +69,6 @@ home-sub-home : (t : ℕ) → home-lts.Need-sub-home (
 ) (home-at t) home.Post
 home-sub-home t c = search needs
 
--- src/plans.rt:435:5
 home-home-requires : (t : ℕ) → home-lts.Need-home-requires (
   start-of-reads.Asked,
   start-of-reads.Learnt,
@@ -84,7 +77,6 @@ home-home-requires : (t : ℕ) → home-lts.Need-home-requires (
 ) (home-at t) home.Post
 home-home-requires t c κs = search needs
 
--- src/plans.rt:426:1
 home-returns-3 : (t : ℕ) → home-lts.Need-returns-3 (
   start-of-reads.Asked,
   start-of-reads.Learnt,

@@ -12,37 +12,30 @@ use Rattle.machine.proofs.memory.words_of.Reads as words-of-reads
 use Rattle.machine.proofs.plans.is_plain.Reads as is-plain-reads
 use Rattle.machine.proofs.plans.stray_to.Reads as stray-to-reads
 
--- src/plans.rt:153:16
 words-of-requires : tie.Need-words-of-requires
 words-of-requires c κs = search needs
 
--- src/plans.rt:154:12
 is-plain-requires : tie.Need-is-plain-requires
 is-plain-requires c κs = search needs
 
--- src/plans.rt:155:13
 returns : tie.Need-returns
 returns c =
     let a = c .before .before .before .before .before .args in
     access-in (tableWith (a .z) (a .t .now)) (a .a) (a .i) (a .mis) (a .dir) (subst (λ (n : ℕ). a .i < n) (c .before .before .before .words-of .ensures .0) (c .before .before .if1 .taken)) (sym (c .before .is-plain .ensures) ∙ c .if2 .taken)
 
--- src/plans.rt:157:9
 returns-2 : tie.Need-returns-2
 returns-2 c =
     let a = c .before .before .before .before .before .args in
     access-bad (tableWith (a .z) (a .t .now)) (a .a) (a .i) (a .mis) (a .dir) (subst (λ (n : ℕ). a .i < n) (c .before .before .before .words-of .ensures .0) (c .before .before .if1 .taken)) (sym (c .before .is-plain .ensures) ∙ c .if2 .left)
 
--- src/plans.rt:160:9
 returns-3 : tie.Need-returns-3
 returns-3 c =
     let a = c .before .before .before .before .args in
     access-out (tableWith (a .z) (a .t .now)) (a .a) (a .i) (a .mis) (a .dir) (subst (λ (n : ℕ). n ≤ a .i) (c .before .before .words-of .ensures .0) (c .before .if1 .left)) (not-true (a .mis) (c .if3 .taken))
 
--- src/plans.rt:162:5
 stray-to-requires : tie.Need-stray-to-requires
 stray-to-requires c κs = search needs
 
--- src/plans.rt:149:1
 returns-4 : tie.Need-returns-4
 returns-4 c =
     let a = c .before .before .before .before .before .args in

@@ -12,33 +12,26 @@ use Rattle.machine.proofs.plans.go.Reads as go-reads
 use Rattle.machine.proofs.plans.masked_by.Reads as masked-by-reads
 use Rattle.machine.proofs.plans.stop.Reads as stop-reads
 
--- src/plans.rt:500:26
 enum-told : tie.Need-enum-told
 enum-told c = search needs
 
--- src/plans.rt:500:26
 stop-requires : tie.Need-stop-requires
 stop-requires c κs = search needs
 
--- src/plans.rt:501:22
 enum-known-site : tie.Need-enum-known-site
 enum-known-site c = search needs
 
--- src/plans.rt:509:25
 masked-by-requires : tie.Need-masked-by-requires
 masked-by-requires c κs = search needs
 
--- src/plans.rt:511:13
 go-requires : tie.Need-go-requires
 go-requires c κs = search needs
 
--- src/plans.rt:495:1
 returns : tie.Need-returns
 returns c =
     let a = c .before .before .before .args in
     (λ t m n. stops t (a .s) (c .stop .result) (dataOf (a .s) m n) (c .stop .ensures .0) refl ∙ sym (ap (λ (x : Site). wrong t (markOf x) (a .q) (dataOf (a .s) m n)) (c .before .enum-told .given .1)), λ t. lands t (c .stop .result) (c .stop .ensures .1) tt)
 
--- src/plans.rt:495:1
 returns-2 : tie.Need-returns-2
 returns-2 c =
     let a = c .before .before .before .before .before .args in

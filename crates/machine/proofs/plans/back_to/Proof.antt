@@ -20,38 +20,30 @@ use Rattle.machine.proofs.plans.popped.Reads as popped-reads
 use Rattle.machine.proofs.plans.site_of.Reads as site-of-reads
 use Rattle.machine.proofs.plans.top_is.Reads as top-is-reads
 
--- src/plans.rt:563:8
 top-is-requires : tie.Need-top-is-requires
 top-is-requires c κs = search needs
 
--- src/plans.rt:564:19
 popped-requires : tie.Need-popped-requires
 popped-requires c κs = search needs
 
--- src/plans.rt:564:9
 go-requires : tie.Need-go-requires
 go-requires c κs = search needs
 
--- src/plans.rt:564:9
 returns : tie.Need-returns
 returns c =
     let a = c .before .before .before .before .before .args in
     let T = tableWith (a .z) (a .t .now) in
     (λ m n. goes T (a .s) (c .go .result) (dataOf (a .s) m n) (c .go .ensures) (c .before .popped .ensures) ∙ right-top T (a .q) (ctlOf (a .s)) (dataOf (a .s) m n) (sym (c .before .before .before .top-is .ensures) ∙ c .before .before .if1 .taken), λ t. lands t (c .go .result) (c .go .ensures .2) tt)
 
--- src/plans.rt:567:9
 home-requires : tie.Need-home-requires
 home-requires c κs = search needs
 
--- src/plans.rt:568:18
 site-of-requires : tie.Need-site-of-requires
 site-of-requires c κs = search needs
 
--- src/plans.rt:568:5
 astray-requires : tie.Need-astray-requires
 astray-requires c κs = search needs
 
--- src/plans.rt:558:1
 returns-2 : tie.Need-returns-2
 returns-2 c =
     let a = c .before .before .before .before .before .before .args in

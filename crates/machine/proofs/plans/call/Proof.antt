@@ -13,29 +13,23 @@ use Rattle.machine.proofs.plans.is_plain.Reads as is-plain-reads
 use Rattle.machine.proofs.plans.pushed.Reads as pushed-reads
 use Rattle.machine.proofs.plans.stop.Reads as stop-reads
 
--- src/plans.rt:370:8
 is-plain-requires : tie.Need-is-plain-requires
 is-plain-requires c κs = search needs
 
--- src/plans.rt:371:19
 pushed-requires : tie.Need-pushed-requires
 pushed-requires c κs = search needs
 
--- src/plans.rt:371:9
 go-requires : tie.Need-go-requires
 go-requires c κs = search needs
 
--- src/plans.rt:371:9
 returns : tie.Need-returns
 returns c =
     let a = c .before .before .before .before .args in
     (λ t m n. goes-plain t (a .s) (c .go .result) (dataOf (a .s) m n) (a .dir) (sym (c .before .before .before .is-plain .ensures) ∙ c .before .before .if1 .taken) (c .go .ensures) (c .before .pushed .ensures), λ t. lands t (c .go .result) (c .go .ensures .2) tt)
 
--- src/plans.rt:373:5
 stop-requires : tie.Need-stop-requires
 stop-requires c κs = search needs
 
--- src/plans.rt:365:1
 returns-2 : tie.Need-returns-2
 returns-2 c =
     let a = c .before .before .before .args in

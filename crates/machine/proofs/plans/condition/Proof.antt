@@ -9,19 +9,15 @@ use Rattle.machine.proofs.plans.condition.Reads as reads
 use Rattle.machine.proofs.plans.condition.Lts as lts
 use Rattle.machine.proofs.plans.is_true.Reads as is-true-reads
 
--- src/plans.rt:101:9
 is-true-requires : tie.Need-is-true-requires
 is-true-requires c κs = search needs
 
--- src/plans.rt:101:9
 returns : tie.Need-returns
 returns c = c .is-true .ensures ∙ holds-yes (truth (c .before .before .args .v)) (c .before .before .args .sense) (c .before .if1 .taken)
 
--- src/plans.rt:103:6
 is-true-requires-2 : tie.Need-is-true-requires-2
 is-true-requires-2 c κs = search needs
 
--- src/plans.rt:97:1
 returns-2 : tie.Need-returns-2
 returns-2 c = ap not (c .is-true2 .ensures) ∙ holds-no (truth (c .before .before .args .v)) (c .before .before .args .sense) (c .before .if1 .left)
 

@@ -14,65 +14,51 @@ use Rattle.machine.proofs.plans.is_true.Reads as is-true-reads
 use Rattle.machine.proofs.plans.stop.Reads as stop-reads
 use Rattle.machine.proofs.plans.went.Reads as went-reads
 
--- src/plans.rt:382:29
 enum-told : tie.Need-enum-told
 enum-told c = search needs
 
--- src/plans.rt:382:29
 stop-requires : tie.Need-stop-requires
 stop-requires c κs = search needs
 
--- src/plans.rt:383:26
 enum-known-dir : tie.Need-enum-known-dir
 enum-known-dir c = search needs
 
--- src/plans.rt:383:35
 stop-requires-2 : tie.Need-stop-requires-2
 stop-requires-2 c κs = search needs
 
--- src/plans.rt:384:25
 enum-known-dir-2 : tie.Need-enum-known-dir-2
 enum-known-dir-2 c = search needs
 
--- src/plans.rt:384:31
 stop-requires-3 : tie.Need-stop-requires-3
 stop-requires-3 c κs = search needs
 
--- src/plans.rt:385:27
 enum-known-dir-3 : tie.Need-enum-known-dir-3
 enum-known-dir-3 c = search needs
 
--- src/plans.rt:386:13
 went-requires : tie.Need-went-requires
 went-requires c κs = search needs
 
--- src/plans.rt:388:30
 is-true-requires : tie.Need-is-true-requires
 is-true-requires c κs = search needs
 
--- src/plans.rt:385:35
 go-requires : tie.Need-go-requires
 go-requires c κs = search needs
 
--- src/plans.rt:377:1
 returns : tie.Need-returns
 returns c =
     let a = c .before .before .before .args in
     (λ t m n. stops t (a .s) (c .stop .result) (dataOf (a .s) m n) (c .stop .ensures .0) refl ∙ sym (ap (λ (d : Directive). fork t (a .v) (a .yes) (a .no) (ctlOf (a .s)) d (dataOf (a .s) m n)) (c .before .enum-told .given .1)), λ t. lands t (c .stop .result) (c .stop .ensures .1) tt)
 
--- src/plans.rt:377:1
 returns-2 : tie.Need-returns-2
 returns-2 c =
     let a = c .before .before .before .before .args in
     (λ t m n. stops t (a .s) (c .stop2 .result) (dataOf (a .s) m n) (c .stop2 .ensures .0) refl ∙ sym (ap (λ (d : Directive). fork t (a .v) (a .yes) (a .no) (ctlOf (a .s)) d (dataOf (a .s) m n)) (c .before .before .dir .given .1)), λ t. lands t (c .stop2 .result) (c .stop2 .ensures .1) tt)
 
--- src/plans.rt:377:1
 returns-3 : tie.Need-returns-3
 returns-3 c =
     let a = c .before .before .before .before .args in
     (λ t m n. stops t (a .s) (c .stop3 .result) (dataOf (a .s) m n) (c .stop3 .ensures .0) refl ∙ sym (ap (λ (d : Directive). fork t (a .v) (a .yes) (a .no) (ctlOf (a .s)) d (dataOf (a .s) m n)) (c .before .before .dir2 .given .1)), λ t. lands t (c .stop3 .result) (c .stop3 .ensures .1) tt)
 
--- src/plans.rt:377:1
 returns-4 : tie.Need-returns-4
 returns-4 c =
     let a = c .before .before .before .before .before .before .args in

@@ -12,21 +12,17 @@ use Rattle.machine.proofs.plans.init.Lts as lts
 use Rattle.machine.proofs.plans.plain_to.Reads as plain-to-reads
 use Rattle.machine.proofs.plans.stop.Reads as stop-reads
 
--- src/plans.rt:256:9
 stop-requires : tie.Need-stop-requires
 stop-requires c κs = search needs
 
--- src/plans.rt:256:9
 returns : tie.Need-returns
 returns c =
     let a = c .before .before .args in
     (λ t m n. stops t (a .s) (c .stop .result) (dataOf (a .s) m n) (c .stop .ensures .0) refl ∙ sym (ap (λ (w : Work). onward w (to (ctlOf (a .s)) (a .next))) (picked (a .s .mis) (halt 23) (plain (a .dir) (did (flagged (dataOf (a .s) m n) false) Nothing)) (c .before .if1 .taken))), λ t. lands t (c .stop .result) (c .stop .ensures .1) tt)
 
--- src/plans.rt:258:5
 plain-to-requires : tie.Need-plain-to-requires
 plain-to-requires c κs = search needs
 
--- src/plans.rt:251:1
 returns-2 : tie.Need-returns-2
 returns-2 c =
     let a = c .before .before .args in

@@ -5,7 +5,6 @@ use Rattle.machine.proofs.plans.is_true.Tie as tie
 use Rattle.machine.proofs.plans.is_true.Reads as reads
 use Rattle.machine.proofs.plans.is_true.Lts as lts
 
--- src/plans.rt:91:1
 returns : tie.Need-returns
 returns c = not-zero (eqb (c .args .v) 0)
 

@@ -19,27 +19,21 @@ use Rattle.machine.proofs.plans.at_place.Reads as at-place-reads
 use Rattle.machine.proofs.plans.go.Reads as go-reads
 use Rattle.machine.proofs.plans.stop.Reads as stop-reads
 
--- src/plans.rt:202:9
 get-requires : tie.Need-get-requires
 get-requires c κs = search needs
 
--- src/plans.rt:204:9
 access-to-requires : tie.Need-access-to-requires
 access-to-requires c κs = search needs
 
--- src/plans.rt:206:21
 enum-known-a : tie.Need-enum-known-a
 enum-known-a c = search needs
 
--- src/plans.rt:206:27
 stop-requires : tie.Need-stop-requires
 stop-requires c κs = search needs
 
--- src/plans.rt:207:22
 enum-known-a-2 : tie.Need-enum-known-a-2
 enum-known-a-2 c = search needs
 
--- src/plans.rt:208:17
 word-at-requires : tie.Need-word-at-requires
 word-at-requires c κs =
     let a = c .before .before .before .before .before .before .before .before .args in
@@ -47,15 +41,12 @@ word-at-requires c κs =
     let A = sym (c .before .before .before .access-to .ensures ∙ ap (λ (v : ℕ). access T (a .array) v (a .s .mis) (a .dir)) (c .before .before .before .before .get .ensures)) ∙ c .before .a2 .given .1 in
     omega (arith, touched T (a .array) _ (a .s .mis) (a .dir) A, small-words (a .z) (a .t .now) (c .before .a2 .given .0 .0) (λ i. omega (arith, c .before .before .before .before .before .before .before .shared-slice-known .given i)))
 
--- src/plans.rt:211:17
 at-place-requires : tie.Need-at-place-requires
 at-place-requires c κs = search needs
 
--- src/plans.rt:210:13
 go-requires : tie.Need-go-requires
 go-requires c κs = search needs
 
--- src/plans.rt:186:1
 returns : tie.Need-returns
 returns c =
     let a = c .before .before .before .before .before .before .before .before .before .args in
@@ -63,7 +54,6 @@ returns c =
     let A = sym (c .before .before .before .before .access-to .ensures ∙ ap (λ (v : ℕ). access T (a .array) v (a .s .mis) (a .dir)) (c .before .before .before .before .before .get .ensures)) ∙ c .before .before .a .given .1 in
     (load-bad T (a .s) (c .stop .result) (dataOf (a .s) (a .regs .now) (a .mem .now)) (to (ctlOf (a .s)) (a .next)) (a .dest) (a .array) (a .index) _ (a .s .mis) (a .dir) A (c .stop .ensures .0), lands T (c .stop .result) (c .stop .ensures .1) tt)
 
--- src/plans.rt:186:1
 returns-2 : tie.Need-returns-2
 returns-2 c =
     let a = c .before .before .before .before .before .before .before .before .before .before .before .args in

@@ -12,15 +12,12 @@ use Rattle.machine.proofs.plans.load_fixed.Lts as lts
 use Rattle.machine.proofs.memory.word_at.Reads as word-at-reads
 use Rattle.machine.proofs.plans.plain_to.Reads as plain-to-reads
 
--- src/plans.rt:281:9
 word-at-requires : tie.Need-word-at-requires
 word-at-requires c κs = search needs
 
--- src/plans.rt:284:5
 plain-to-requires : tie.Need-plain-to-requires
 plain-to-requires c κs = search needs
 
--- src/plans.rt:266:1
 returns : tie.Need-returns
 returns c =
     let a = c .before .before .before .before .args in

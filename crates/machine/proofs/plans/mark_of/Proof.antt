@@ -5,75 +5,58 @@ use Rattle.machine.proofs.plans.mark_of.Tie as tie
 use Rattle.machine.proofs.plans.mark_of.Reads as reads
 use Rattle.machine.proofs.plans.mark_of.Lts as lts
 
--- src/plans.rt:443:20
 enum-known-r : tie.Need-enum-known-r
 enum-known-r c = search needs
 
--- src/plans.rt:444:34
 enum-known-r-2 : tie.Need-enum-known-r-2
 enum-known-r-2 c = search needs
 
--- src/plans.rt:446:17
 returns : tie.Need-returns
 returns c =
     let h = c .if1 .taken in
     simp (c .before .before .r2 .given .1, eq-eqb)
 
--- src/plans.rt:450:22
 enum-known-r-3 : tie.Need-enum-known-r-3
 enum-known-r-3 c = search needs
 
--- src/plans.rt:451:24
 enum-known-r-4 : tie.Need-enum-known-r-4
 enum-known-r-4 c = search needs
 
--- src/plans.rt:452:26
 enum-told : tie.Need-enum-told
 enum-told c = search needs
 
--- src/plans.rt:453:25
 enum-known-r-5 : tie.Need-enum-known-r-5
 enum-known-r-5 c = search needs
 
--- src/plans.rt:454:28
 enum-known-r-6 : tie.Need-enum-known-r-6
 enum-known-r-6 c = search needs
 
--- src/plans.rt:455:27
 enum-told-2 : tie.Need-enum-told-2
 enum-told-2 c = search needs
 
--- src/plans.rt:439:1
 returns-2 : tie.Need-returns-2
 returns-2 c = search needs
 
--- src/plans.rt:439:1
 returns-3 : tie.Need-returns-3
 returns-3 c =
     let h = c .if1 .left in
     simp (c .before .before .r2 .given .1, ne-eqb)
 
--- src/plans.rt:439:1
 returns-4 : tie.Need-returns-4
 returns-4 c = search needs
 
--- src/plans.rt:439:1
 returns-5 : tie.Need-returns-5
 returns-5 c = search needs
 
--- src/plans.rt:439:1
 returns-6 : tie.Need-returns-6
 returns-6 c = search needs
 
--- src/plans.rt:439:1
 returns-7 : tie.Need-returns-7
 returns-7 c = simp (c .before .r5 .given .1)
 
--- src/plans.rt:439:1
 returns-8 : tie.Need-returns-8
 returns-8 c = search needs
 
--- src/plans.rt:439:1
 returns-9 : tie.Need-returns-9
 returns-9 c = search needs
 

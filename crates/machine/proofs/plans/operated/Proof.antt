@@ -7,19 +7,15 @@ use Rattle.machine.proofs.plans.operated.Lts as lts
 use Rattle.machine.proofs.memory.get.Reads as get-reads
 use Rattle.machine.proofs.plans.operation.Reads as operation-reads
 
--- src/plans.rt:354:19
 get-requires : tie.Need-get-requires
 get-requires c κs = search needs
 
--- src/plans.rt:354:45
 get-requires-2 : tie.Need-get-requires-2
 get-requires-2 c κs = search needs
 
--- src/plans.rt:354:5
 operation-requires : tie.Need-operation-requires
 operation-requires c κs = search needs
 
--- src/plans.rt:351:1
 returns : tie.Need-returns
 returns c = op-value (c .before .before .before .before .args .op) (c .operation .ensures) (c .before .before .get .ensures) (c .before .get2 .ensures)
 

@@ -11,69 +11,56 @@ use Rattle.machine.proofs.plans.times.Reads as times-reads
 use Rattle.std.proofs.num.wrapping_add_u32.Reads as wrapping-add-u32-reads
 use Rattle.std.proofs.num.wrapping_sub_u32.Reads as wrapping-sub-u32-reads
 
--- src/plans.rt:135:14
 wrapping-add-u32-requires : tie.Need-wrapping-add-u32-requires
 wrapping-add-u32-requires c κs = search needs
 
--- src/plans.rt:136:14
 wrapping-sub-u32-requires : tie.Need-wrapping-sub-u32-requires
 wrapping-sub-u32-requires c κs = search needs
 
--- src/plans.rt:137:14
 times-requires : tie.Need-times-requires
 times-requires c κs = search needs
 
--- src/plans.rt:141:14
 less-requires : tie.Need-less-requires
 less-requires c κs = search needs
 
--- src/plans.rt:142:14
 equal-requires : tie.Need-equal-requires
 equal-requires c κs = search needs
 
--- src/plans.rt:131:1
 returns : tie.Need-returns
 returns c =
     let a = c .before .before .args in
     c .wrapping-add-u32 .ensures ∙ sym (operate-0 (a .op) (a .a) (a .b) (c .before .match .keys1))
 
--- src/plans.rt:131:1
 returns-2 : tie.Need-returns-2
 returns-2 c =
     let a = c .before .before .args in
     difference (a .a) (a .b) (c .wrapping-sub-u32 .result) (search needs) (search needs) (search needs) (c .wrapping-sub-u32 .ensures) ∙ sym (operate-1 (a .op) (a .a) (a .b) (c .before .match .keys2))
 
--- src/plans.rt:131:1
 returns-3 : tie.Need-returns-3
 returns-3 c =
     let a = c .before .before .args in
     c .times .ensures ∙ sym (operate-2 (a .op) (a .a) (a .b) (c .before .match .keys3))
 
--- src/plans.rt:131:1
 returns-4 : tie.Need-returns-4
 returns-4 c =
     let a = c .before .args in
     sym (operate-3 (a .op) (a .a) (a .b) (c .match .keys4))
 
--- src/plans.rt:131:1
 returns-5 : tie.Need-returns-5
 returns-5 c =
     let a = c .before .args in
     sym (operate-4 (a .op) (a .a) (a .b) (c .match .keys5))
 
--- src/plans.rt:131:1
 returns-6 : tie.Need-returns-6
 returns-6 c =
     let a = c .before .args in
     sym (operate-5 (a .op) (a .a) (a .b) (c .match .keys6))
 
--- src/plans.rt:131:1
 returns-7 : tie.Need-returns-7
 returns-7 c =
     let a = c .before .before .args in
     c .less .ensures ∙ sym (operate-6 (a .op) (a .a) (a .b) (c .before .match .keys7))
 
--- src/plans.rt:131:1
 returns-8 : tie.Need-returns-8
 returns-8 c =
     let a = c .before .before .args in

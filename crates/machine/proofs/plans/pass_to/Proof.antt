@@ -6,11 +6,9 @@ use Rattle.machine.proofs.plans.pass_to.Reads as reads
 use Rattle.machine.proofs.plans.pass_to.Lts as lts
 use Rattle.machine.proofs.plans.plain_to.Reads as plain-to-reads
 
--- src/plans.rt:591:5
 plain-to-requires : tie.Need-plain-to-requires
 plain-to-requires c κs = search needs
 
--- src/plans.rt:586:1
 returns : tie.Need-returns
 returns c = (λ t m n. c .plain-to .ensures .0 t (dataOf (c .before .args .s) m n), λ t. c .plain-to .ensures .1 t tt)
 

@@ -12,27 +12,21 @@ use Rattle.machine.proofs.plans.go.Reads as go-reads
 use Rattle.machine.proofs.plans.is_plain.Reads as is-plain-reads
 use Rattle.machine.proofs.plans.stop.Reads as stop-reads
 
--- src/plans.rt:83:8
 is-plain-requires : tie.Need-is-plain-requires
 is-plain-requires c κs = search needs
 
--- src/plans.rt:84:19
 at-place-requires : tie.Need-at-place-requires
 at-place-requires c κs = search needs
 
--- src/plans.rt:84:9
 go-requires : tie.Need-go-requires
 go-requires c κs = search needs
 
--- src/plans.rt:84:9
 returns : tie.Need-returns
 returns c = (λ t x. goes-plain t (c .before .before .before .before .args .s) (c .go .result) x (c .before .before .before .before .args .dir) (sym (c .before .before .before .is-plain .ensures) ∙ c .before .before .if1 .taken) (c .go .ensures) (c .before .at-place .ensures), λ t l. lands t (c .go .result) (c .go .ensures .2) l)
 
--- src/plans.rt:86:5
 stop-requires : tie.Need-stop-requires
 stop-requires c κs = search needs
 
--- src/plans.rt:79:1
 returns-2 : tie.Need-returns-2
 returns-2 c =
     let a = c .before .before .before .args in

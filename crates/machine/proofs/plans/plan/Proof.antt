@@ -5,7 +5,7 @@ use Rattle.format.specs.Layout.{tableWith}
 use mathlib.Core.Path.{sym, ap, _∙_}
 use Prim.Native.Nat.{ℕ, _+_}
 use native.Mathlib.Omega.{arith}
-use Rattle.machine.proofs.Planning.{small-16, record-got, record-bad, known, step-is, step-got}
+use Rattle.machine.proofs.Planning.{small-16, record-bad, known, step-is, step-got}
 use borrow.Author.Needs.{needs}
 use Rattle.machine.proofs.plans.plan.Statement.{statement}
 use Rattle.machine.proofs.plans.plan.Tie as tie
@@ -20,42 +20,33 @@ use Rattle.machine.proofs.plans.pass_to.Reads as pass-to-reads
 use Rattle.machine.proofs.plans.returning.Reads as returning-reads
 use Rattle.machine.proofs.plans.simple.Reads as simple-reads
 
--- src/plans.rt:602:9
 decode-requires : tie.Need-decode-requires
 decode-requires c κs = search needs
 
--- src/plans.rt:604:22
 enum-known-d : tie.Need-enum-known-d
 enum-known-d c = search needs
 
--- src/plans.rt:604:31
 returning-requires : tie.Need-returning-requires
 returning-requires c κs = search needs
 
--- src/plans.rt:605:22
 enum-known-d-2 : tie.Need-enum-known-d-2
 enum-known-d-2 c = search needs
 
--- src/plans.rt:606:24
 enum-known-r : tie.Need-enum-known-r
 enum-known-r c = search needs
 
--- src/plans.rt:606:30
 simple-requires : tie.Need-simple-requires
 simple-requires c κs =
     let a = c .before .before .before .before .before .before .before .before .before .before .args in
     let t = a .t .now in
     good (a .z) t (a .s .place) (known (a .z) t (a .s .place) (c .before .before .before .before .before .before .decode .ensures) (c .before .before .before .before .d2 .given .1) (c .before .r .given .1)) .reaches
 
--- src/plans.rt:607:28
 enum-known-r-2 : tie.Need-enum-known-r-2
 enum-known-r-2 c = search needs
 
--- src/plans.rt:607:67
 start-of-requires : tie.Need-start-of-requires
 start-of-requires c κs = search needs
 
--- src/plans.rt:607:48
 call-requires : tie.Need-call-requires
 call-requires c κs =
     let a = c .before .before .before .before .before .before .before .before .before .before .before .args in
@@ -63,19 +54,15 @@ call-requires c κs =
     let D = known (a .z) t (a .s .place) (c .before .before .before .before .before .before .before .decode .ensures) (c .before .before .before .before .before .d2 .given .1) (c .before .before .r2 .given .1) in
     omega (arith, good (a .z) t (a .s .place) D .whole, c .before .before .before .before .before .before .before .before .before .before .before .pre)
 
--- src/plans.rt:608:26
 enum-known-r-3 : tie.Need-enum-known-r-3
 enum-known-r-3 c = search needs
 
--- src/plans.rt:611:27
 cast-get : tie.Need-cast-get
 cast-get c = search needs
 
--- src/plans.rt:611:17
 get-requires : tie.Need-get-requires
 get-requires c κs = search needs
 
--- src/plans.rt:613:17
 add-forked : tie.Need-add-forked
 add-forked c =
     let a = c .before .before .before .before .before .before .before .before .before .before .before .args in
@@ -83,15 +70,12 @@ add-forked c =
     let D = known (a .z) t (a .s .place) (c .before .before .before .before .before .before .before .decode .ensures) (c .before .before .before .before .before .d2 .given .1) (c .before .before .r3 .given .1) in
     omega (arith, good (a .z) t (a .s .place) D .names, small-16 t (a .s .place + 2) (λ i. omega (arith, c .before .before .before .before .before .before .before .before .before .before .shared-slice-known .given i)))
 
--- src/plans.rt:608:44
 forked-requires : tie.Need-forked-requires
 forked-requires c κs = search needs
 
--- src/plans.rt:615:28
 enum-known-r-4 : tie.Need-enum-known-r-4
 enum-known-r-4 c = search needs
 
--- src/plans.rt:615:52
 add-pass-to : tie.Need-add-pass-to
 add-pass-to c =
     let a = c .before .before .before .before .before .before .before .before .before .before .args in
@@ -99,31 +83,24 @@ add-pass-to c =
     let D = known (a .z) t (a .s .place) (c .before .before .before .before .before .before .decode .ensures) (c .before .before .before .before .d2 .given .1) (c .before .r4 .given .1) in
     omega (arith, good (a .z) t (a .s .place) D .names, small-16 t (a .s .place + 1) (λ i. omega (arith, c .before .before .before .before .before .before .before .before .before .shared-slice-known .given i)))
 
--- src/plans.rt:615:36
 pass-to-requires : tie.Need-pass-to-requires
 pass-to-requires c κs = search needs
 
--- src/plans.rt:616:30
 enum-told : tie.Need-enum-told
 enum-told c = search needs
 
--- src/plans.rt:616:30
 pass-to-requires-2 : tie.Need-pass-to-requires-2
 pass-to-requires-2 c κs = search needs
 
--- src/plans.rt:617:29
 enum-known-r-5 : tie.Need-enum-known-r-5
 enum-known-r-5 c = search needs
 
--- src/plans.rt:620:27
 cast-get-2 : tie.Need-cast-get-2
 cast-get-2 c = search needs
 
--- src/plans.rt:620:17
 get-requires-2 : tie.Need-get-requires-2
 get-requires-2 c κs = search needs
 
--- src/plans.rt:622:17
 add-forked-2 : tie.Need-add-forked-2
 add-forked-2 c =
     let a = c .before .before .before .before .before .before .before .before .before .before .before .args in
@@ -131,27 +108,21 @@ add-forked-2 c =
     let D = known (a .z) t (a .s .place) (c .before .before .before .before .before .before .before .decode .ensures) (c .before .before .before .before .before .d2 .given .1) (c .before .before .r5 .given .1) in
     omega (arith, good (a .z) t (a .s .place) D .names, small-16 t (a .s .place + 2) (λ i. omega (arith, c .before .before .before .before .before .before .before .before .before .before .shared-slice-known .given i)))
 
--- src/plans.rt:617:52
 forked-requires-2 : tie.Need-forked-requires-2
 forked-requires-2 c κs = search needs
 
--- src/plans.rt:624:32
 enum-known-r-6 : tie.Need-enum-known-r-6
 enum-known-r-6 c = search needs
 
--- src/plans.rt:624:40
 pass-to-requires-3 : tie.Need-pass-to-requires-3
 pass-to-requires-3 c κs = search needs
 
--- src/plans.rt:625:31
 enum-told-2 : tie.Need-enum-told-2
 enum-told-2 c = search needs
 
--- src/plans.rt:625:31
 returning-requires-2 : tie.Need-returning-requires-2
 returning-requires-2 c κs = search needs
 
--- src/plans.rt:595:1
 returns : tie.Need-returns
 returns c =
     let a = c .before .before .before .before .before .before .before .before .args in
@@ -161,7 +132,6 @@ returns c =
     let X = dataOf (a .s) (a .regs .now) (a .mem .now) in
     (c .returning .ensures .0 (a .regs .now) (a .mem .now) ∙ step-is (a .z) t C (a .dir) X (record-bad (a .z) t (a .s .place) (sym (c .before .before .before .before .decode .ensures) ∙ c .before .before .d .given .1)), c .returning .ensures .1 T)
 
--- src/plans.rt:595:1
 returns-2 : tie.Need-returns-2
 returns-2 c =
     let a = c .before .before .before .before .before .before .before .before .before .before .before .args in
@@ -173,7 +143,6 @@ returns-2 c =
     let is = step-got (a .z) t C (a .dir) X D in
     (c .simple .ensures .0 ∙ ap (λ (n : ℕ). onward (work T (c .before .before .r .given .0 .0) (a .dir) (a .s .mis) X) (to C n)) (good (a .z) t (a .s .place) D .next) ∙ is, c .simple .ensures .1)
 
--- src/plans.rt:595:1
 returns-3 : tie.Need-returns-3
 returns-3 c =
     let a = c .before .before .before .before .before .before .before .before .before .before .before .before .args in
@@ -186,7 +155,6 @@ returns-3 c =
     let there = ap (λ (n : ℕ). pass T (a .dir) X (called C n (c .before .start-of .result))) (good (a .z) t (a .s .place) D .next) ∙ ap (λ (p : ℕ). pass T (a .dir) X (called C (a .s .place + 3) p)) (c .before .start-of .ensures .0) in
     (c .call .ensures .0 T (a .regs .now) (a .mem .now) ∙ there ∙ is, c .call .ensures .1 T)
 
--- src/plans.rt:595:1
 returns-4 : tie.Need-returns-4
 returns-4 c =
     let a = c .before .before .before .before .before .before .before .before .before .before .before .before .args in
@@ -200,7 +168,6 @@ returns-4 c =
     let there = ap (λ (v : ℕ). fork T v (c .before .before .before .before .before .before .d2 .given .0 .1 .0) (e + 3) C (a .dir) X) (c .before .get .ensures) ∙ ap (λ (n : ℕ). fork T (reg X (c .before .before .before .r3 .given .0 .0)) n (e + 3) C (a .dir) X) (good (a .z) t (a .s .place) D .next) in
     (c .forked .ensures .0 T (a .regs .now) (a .mem .now) ∙ there ∙ is, c .forked .ensures .1 T)
 
--- src/plans.rt:595:1
 returns-5 : tie.Need-returns-5
 returns-5 c =
     let a = c .before .before .before .before .before .before .before .before .before .before .before .args in
@@ -212,7 +179,6 @@ returns-5 c =
     let is = step-got (a .z) t C (a .dir) X D in
     (c .pass-to .ensures .0 T (a .regs .now) (a .mem .now) ∙ is, c .pass-to .ensures .1 T)
 
--- src/plans.rt:595:1
 returns-6 : tie.Need-returns-6
 returns-6 c =
     let a = c .before .before .before .before .before .before .before .before .before .before .args in
@@ -224,7 +190,6 @@ returns-6 c =
     let is = step-got (a .z) t C (a .dir) X D in
     (c .pass-to2 .ensures .0 T (a .regs .now) (a .mem .now) ∙ ap (λ (n : ℕ). pass T (a .dir) X (to C n)) (good (a .z) t (a .s .place) D .next) ∙ is, c .pass-to2 .ensures .1 T)
 
--- src/plans.rt:595:1
 returns-7 : tie.Need-returns-7
 returns-7 c =
     let a = c .before .before .before .before .before .before .before .before .before .before .before .before .args in
@@ -238,7 +203,6 @@ returns-7 c =
     let there = ap (λ (v : ℕ). fork T v (c .before .before .before .before .before .before .d2 .given .0 .1 .0) (e + 3) C (a .dir) X) (c .before .get2 .ensures) ∙ ap (λ (n : ℕ). fork T (reg X (c .before .before .before .r5 .given .0 .0)) n (e + 3) C (a .dir) X) (good (a .z) t (a .s .place) D .next) in
     (c .forked2 .ensures .0 T (a .regs .now) (a .mem .now) ∙ there ∙ is, c .forked2 .ensures .1 T)
 
--- src/plans.rt:595:1
 returns-8 : tie.Need-returns-8
 returns-8 c =
     let a = c .before .before .before .before .before .before .before .before .before .before .before .args in
@@ -250,7 +214,6 @@ returns-8 c =
     let is = step-got (a .z) t C (a .dir) X D in
     (c .pass-to3 .ensures .0 T (a .regs .now) (a .mem .now) ∙ is, c .pass-to3 .ensures .1 T)
 
--- src/plans.rt:595:1
 returns-9 : tie.Need-returns-9
 returns-9 c =
     let a = c .before .before .before .before .before .before .before .before .before .before .args in

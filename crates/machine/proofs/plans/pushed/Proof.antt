@@ -9,11 +9,9 @@ use Rattle.machine.proofs.plans.pushed.Tie as tie
 use Rattle.machine.proofs.plans.pushed.Reads as reads
 use Rattle.machine.proofs.plans.pushed.Lts as lts
 
--- src/plans.rt:360:34
 cast-t5 : tie.Need-cast-t5
 cast-t5 c = search needs
 
--- src/plans.rt:354:1
 returns : tie.Need-returns
 returns c =
     let a = c .args in

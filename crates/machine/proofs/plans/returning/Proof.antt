@@ -12,60 +12,48 @@ use Rattle.machine.proofs.plans.returning.Lts as lts
 use Rattle.machine.proofs.plans.back_to.Reads as back-to-reads
 use Rattle.machine.proofs.plans.stop.Reads as stop-reads
 
--- src/plans.rt:577:29
 enum-told : tie.Need-enum-told
 enum-told c = search needs
 
--- src/plans.rt:577:29
 stop-requires : tie.Need-stop-requires
 stop-requires c κs = search needs
 
--- src/plans.rt:578:27
 enum-known-dir : tie.Need-enum-known-dir
 enum-known-dir c = search needs
 
--- src/plans.rt:578:33
 stop-requires-2 : tie.Need-stop-requires-2
 stop-requires-2 c κs = search needs
 
--- src/plans.rt:579:26
 enum-known-dir-2 : tie.Need-enum-known-dir-2
 enum-known-dir-2 c = search needs
 
--- src/plans.rt:579:35
 stop-requires-3 : tie.Need-stop-requires-3
 stop-requires-3 c κs = search needs
 
--- src/plans.rt:580:25
 enum-known-dir-3 : tie.Need-enum-known-dir-3
 enum-known-dir-3 c = search needs
 
--- src/plans.rt:580:31
 back-to-requires : tie.Need-back-to-requires
 back-to-requires c κs = search needs
 
--- src/plans.rt:571:1
 returns : tie.Need-returns
 returns c =
     let a = c .before .before .before .before .args in
     let T = tableWith (a .z) (a .t .now) in
     (λ m n. stops T (a .s) (c .stop .result) (dataOf (a .s) m n) (c .stop .ensures .0) refl ∙ sym (ap (λ (d : Directive). back T (ctlOf (a .s)) d (dataOf (a .s) m n)) (c .before .enum-told .given .1)), λ t. lands t (c .stop .result) (c .stop .ensures .1) tt)
 
--- src/plans.rt:571:1
 returns-2 : tie.Need-returns-2
 returns-2 c =
     let a = c .before .before .before .before .before .args in
     let T = tableWith (a .z) (a .t .now) in
     (λ m n. stops T (a .s) (c .stop2 .result) (dataOf (a .s) m n) (c .stop2 .ensures .0) refl ∙ sym (ap (λ (d : Directive). back T (ctlOf (a .s)) d (dataOf (a .s) m n)) (c .before .before .dir .given .1)), λ t. lands t (c .stop2 .result) (c .stop2 .ensures .1) tt)
 
--- src/plans.rt:571:1
 returns-3 : tie.Need-returns-3
 returns-3 c =
     let a = c .before .before .before .before .before .args in
     let T = tableWith (a .z) (a .t .now) in
     (λ m n. stops T (a .s) (c .stop3 .result) (dataOf (a .s) m n) (c .stop3 .ensures .0) refl ∙ sym (ap (λ (d : Directive). back T (ctlOf (a .s)) d (dataOf (a .s) m n)) (c .before .before .dir2 .given .1)), λ t. lands t (c .stop3 .result) (c .stop3 .ensures .1) tt)
 
--- src/plans.rt:571:1
 returns-4 : tie.Need-returns-4
 returns-4 c =
     let a = c .before .before .before .before .before .args in

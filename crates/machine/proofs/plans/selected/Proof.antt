@@ -10,27 +10,21 @@ use Rattle.machine.proofs.memory.get.Reads as get-reads
 use Rattle.machine.proofs.plans.choose.Reads as choose-reads
 use Rattle.machine.proofs.plans.is_true.Reads as is-true-reads
 
--- src/plans.rt:361:21
 get-requires : tie.Need-get-requires
 get-requires c κs = search needs
 
--- src/plans.rt:361:9
 is-true-requires : tie.Need-is-true-requires
 is-true-requires c κs = search needs
 
--- src/plans.rt:362:15
 get-requires-2 : tie.Need-get-requires-2
 get-requires-2 c κs = search needs
 
--- src/plans.rt:362:40
 get-requires-3 : tie.Need-get-requires-3
 get-requires-3 c κs = search needs
 
--- src/plans.rt:362:5
 choose-requires : tie.Need-choose-requires
 choose-requires c κs = search needs
 
--- src/plans.rt:358:1
 returns : tie.Need-returns
 returns c = select-value (c .choose .ensures) (c .before .before .before .is-true .ensures ∙ ap truth (c .before .before .before .before .get .ensures)) (c .before .before .get2 .ensures) (c .before .get3 .ensures)
 

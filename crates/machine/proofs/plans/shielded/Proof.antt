@@ -8,15 +8,12 @@ use Rattle.machine.proofs.plans.shielded.Lts as lts
 use Rattle.machine.proofs.memory.get.Reads as get-reads
 use Rattle.machine.proofs.plans.choose.Reads as choose-reads
 
--- src/plans.rt:370:32
 get-requires : tie.Need-get-requires
 get-requires c κs = search needs
 
--- src/plans.rt:370:5
 choose-requires : tie.Need-choose-requires
 choose-requires c κs = search needs
 
--- src/plans.rt:366:1
 returns : tie.Need-returns
 returns c = select-value {b = c .before .before .before .args .s .masked} {l = 4294967295} (c .choose .ensures) refl refl (c .before .get .ensures)
 

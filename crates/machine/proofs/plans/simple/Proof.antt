@@ -28,111 +28,84 @@ use Rattle.machine.proofs.plans.store_fixed.Reads as store-fixed-reads
 use Rattle.machine.proofs.plans.updated.Reads as updated-reads
 use Rattle.machine.proofs.plans.write.Reads as write-reads
 
--- src/plans.rt:389:25
 enum-known-r : tie.Need-enum-known-r
 enum-known-r c = search needs
 
--- src/plans.rt:389:42
 write-requires : tie.Need-write-requires
 write-requires c κs = search needs
 
--- src/plans.rt:391:13
 enum-known-r-2 : tie.Need-enum-known-r-2
 enum-known-r-2 c = search needs
 
--- src/plans.rt:395:40
 operated-requires : tie.Need-operated-requires
 operated-requires c κs = search needs
 
--- src/plans.rt:395:14
 write-requires-2 : tie.Need-write-requires-2
 write-requires-2 c κs = search needs
 
--- src/plans.rt:397:13
 enum-known-r-3 : tie.Need-enum-known-r-3
 enum-known-r-3 c = search needs
 
--- src/plans.rt:401:40
 selected-requires : tie.Need-selected-requires
 selected-requires c κs = search needs
 
--- src/plans.rt:401:14
 write-requires-3 : tie.Need-write-requires-3
 write-requires-3 c κs = search needs
 
--- src/plans.rt:402:24
 enum-known-r-4 : tie.Need-enum-known-r-4
 enum-known-r-4 c = search needs
 
--- src/plans.rt:403:13
 load-requires : tie.Need-load-requires
 load-requires c κs = search needs
 
--- src/plans.rt:406:13
 enum-known-r-5 : tie.Need-enum-known-r-5
 enum-known-r-5 c = search needs
 
--- src/plans.rt:409:14
 store-requires : tie.Need-store-requires
 store-requires c κs = search needs
 
--- src/plans.rt:410:25
 enum-told : tie.Need-enum-told
 enum-told c = search needs
 
--- src/plans.rt:410:25
 init-requires : tie.Need-init-requires
 init-requires c κs = search needs
 
--- src/plans.rt:411:26
 enum-known-r-6 : tie.Need-enum-known-r-6
 enum-known-r-6 c = search needs
 
--- src/plans.rt:412:44
 cast-get : tie.Need-cast-get
 cast-get c = search needs
 
--- src/plans.rt:412:34
 get-requires : tie.Need-get-requires
 get-requires c κs = search needs
 
--- src/plans.rt:412:17
 condition-requires : tie.Need-condition-requires
 condition-requires c κs = search needs
 
--- src/plans.rt:413:13
 updated-requires : tie.Need-updated-requires
 updated-requires c κs = search needs
 
--- src/plans.rt:415:27
 enum-known-r-7 : tie.Need-enum-known-r-7
 enum-known-r-7 c = search needs
 
--- src/plans.rt:415:73
 shielded-requires : tie.Need-shielded-requires
 shielded-requires c κs = search needs
 
--- src/plans.rt:415:47
 write-requires-4 : tie.Need-write-requires-4
 write-requires-4 c κs = search needs
 
--- src/plans.rt:416:29
 enum-known-r-8 : tie.Need-enum-known-r-8
 enum-known-r-8 c = search needs
 
--- src/plans.rt:417:13
 load-fixed-requires : tie.Need-load-fixed-requires
 load-fixed-requires c κs = search needs
 
--- src/plans.rt:420:13
 enum-known-r-9 : tie.Need-enum-known-r-9
 enum-known-r-9 c = search needs
 
--- src/plans.rt:423:14
 store-fixed-requires : tie.Need-store-fixed-requires
 store-fixed-requires c κs = search needs
 
--- src/plans.rt:373:1
 returns : tie.Need-returns
 returns c =
     let a = c .before .before .before .before .before .before .before .args in
@@ -141,7 +114,6 @@ returns c =
     let is = work-of T (a .dir) (a .s .mis) X (to (ctlOf (a .s)) (a .next)) (c .before .before .r .given .1) in
     (c .write .ensures .0 T X ∙ is, c .write .ensures .1 T)
 
--- src/plans.rt:373:1
 returns-2 : tie.Need-returns-2
 returns-2 c =
     let a = c .before .before .before .before .before .before .before .before .args in
@@ -151,7 +123,6 @@ returns-2 c =
     let value : ℕ → Stepped = λ v. plainly T (a .dir) (a .s) (a .next) (Register (c .before .before .before .r2 .given .0 .0) v) (a .s .masked) Nothing X in
     (c .write2 .ensures .0 T X ∙ ap value (c .before .operated .ensures) ∙ is, c .write2 .ensures .1 T)
 
--- src/plans.rt:373:1
 returns-3 : tie.Need-returns-3
 returns-3 c =
     let a = c .before .before .before .before .before .before .before .before .args in
@@ -161,7 +132,6 @@ returns-3 c =
     let value : ℕ → Stepped = λ v. plainly T (a .dir) (a .s) (a .next) (Register (c .before .before .before .r3 .given .0 .0) v) (a .s .masked) Nothing X in
     (c .write3 .ensures .0 T X ∙ ap value (c .before .selected .ensures) ∙ is, c .write3 .ensures .1 T)
 
--- src/plans.rt:373:1
 returns-4 : tie.Need-returns-4
 returns-4 c =
     let a = c .before .before .before .before .before .before .before .args in
@@ -170,7 +140,6 @@ returns-4 c =
     let is = work-of T (a .dir) (a .s .mis) X (to (ctlOf (a .s)) (a .next)) (c .before .before .r4 .given .1) in
     (c .load .ensures .0 ∙ is, c .load .ensures .1)
 
--- src/plans.rt:373:1
 returns-5 : tie.Need-returns-5
 returns-5 c =
     let a = c .before .before .before .before .before .before .before .args in
@@ -179,7 +148,6 @@ returns-5 c =
     let is = work-of T (a .dir) (a .s .mis) X (to (ctlOf (a .s)) (a .next)) (c .before .before .r5 .given .1) in
     (c .store .ensures .0 (a .mem .now) ∙ is, c .store .ensures .1)
 
--- src/plans.rt:373:1
 returns-6 : tie.Need-returns-6
 returns-6 c =
     let a = c .before .before .before .before .before .before .args in
@@ -188,7 +156,6 @@ returns-6 c =
     let is = work-of T (a .dir) (a .s .mis) X (to (ctlOf (a .s)) (a .next)) (c .before .enum-told .given .1) in
     (c .init .ensures .0 T (a .regs .now) (a .mem .now) ∙ is, c .init .ensures .1 T)
 
--- src/plans.rt:373:1
 returns-7 : tie.Need-returns-7
 returns-7 c =
     let a = c .before .before .before .before .before .before .before .before .before .args in
@@ -198,7 +165,6 @@ returns-7 c =
     let held = c .before .condition .ensures ∙ ap (λ (v : ℕ). holds v (c .before .before .before .before .r6 .given .0 .1 .0)) (c .before .before .get .ensures) in
     (c .updated .ensures .0 T X ∙ ap (λ (b : Bool). plainly T (a .dir) (a .s) (a .next) None (pick b (a .s .masked) true) Nothing X) held ∙ is, c .updated .ensures .1 T)
 
--- src/plans.rt:373:1
 returns-8 : tie.Need-returns-8
 returns-8 c =
     let a = c .before .before .before .before .before .before .before .before .args in
@@ -208,7 +174,6 @@ returns-8 c =
     let value : ℕ → Stepped = λ v. plainly T (a .dir) (a .s) (a .next) (Register (c .before .before .before .r7 .given .0 .0) v) (a .s .masked) Nothing X in
     (c .write4 .ensures .0 T X ∙ ap value (c .before .shielded .ensures) ∙ is, c .write4 .ensures .1 T)
 
--- src/plans.rt:373:1
 returns-9 : tie.Need-returns-9
 returns-9 c =
     let a = c .before .before .before .before .before .before .before .args in
@@ -217,7 +182,6 @@ returns-9 c =
     let is = work-of T (a .dir) (a .s .mis) X (to (ctlOf (a .s)) (a .next)) (c .before .before .r8 .given .1) in
     (c .load-fixed .ensures .0 (a .regs .now) ∙ is, c .load-fixed .ensures .1 T)
 
--- src/plans.rt:373:1
 returns-10 : tie.Need-returns-10
 returns-10 c =
     let a = c .before .before .before .before .before .before .before .args in

@@ -23,29 +23,23 @@ Inv-loop t z function q c₀ c = (k : ℕ) × (length t - c ≤ k) × (scan (rec
 abbrev μ-loop : tie.MeasureT-loop
 μ-loop t z function q c₀ c = length t - c
 
--- src/plans.rt:464:9
 start-of-requires : tie.Need-start-of-requires Inv-loop μ-loop
 start-of-requires c κs = search needs
 
--- src/plans.rt:465:5
 loop-holds : tie.Need-loop-holds Inv-loop μ-loop
 loop-holds c = (length (c .before .before .args .t .now), omega arith, refl)
 
--- src/plans.rt:466:13
 decode-requires : tie.Need-decode-requires Inv-loop μ-loop
 decode-requires c κs = search needs
 
--- src/plans.rt:468:26
 enum-known-d : tie.Need-enum-known-d Inv-loop μ-loop
 enum-known-d c = search needs
 
--- src/plans.rt:469:25
 add-if1 : tie.Need-add-if1 Inv-loop μ-loop
 add-if1 c =
     let p = c .before .before .before .before .before .before .before .before .pre in
     omega (arith, p, c .before .before .before .before .loop-test .taken)
 
--- src/plans.rt:470:21
 returns : tie.Need-returns Inv-loop μ-loop
 returns c =
     let a = c .before .before .before .before .before .before .before .before .before .args in
@@ -55,19 +49,16 @@ returns c =
     let S = ap (λ (n : ℕ). scan R (length t) (length t) n (a .function) (a .q)) (sym (c .before .before .before .before .before .before .before .start-of .ensures .0)) ∙ L .inv .2 in
     sym (S ∙ scan-hit R (length t) (a .function) (a .q) (L .inv .0) (L .c) (L .inv .1) (c .before .before .before .before .before .loop-test .taken) (c .if1 .taken) ∙ ap (λ (r : Record). markOf r (a .function)) (record-bad (a .z) t (L .c) (sym (c .before .before .before .before .decode .ensures) ∙ c .before .before .d .given .1)))
 
--- src/plans.rt:472:21
 add-c : tie.Need-add-c Inv-loop μ-loop
 add-c c =
     let p = c .before .before .before .before .before .before .before .before .before .pre in
     omega (arith, p, c .before .before .before .before .before .loop-test .taken)
 
--- src/plans.rt:465:5
 loop-less : tie.Need-loop-less Inv-loop μ-loop
 loop-less c =
     let p = c .before .before .before .before .before .loop-test .taken in
     omega (arith, p)
 
--- src/plans.rt:465:5
 loop-again : tie.Need-loop-again Inv-loop μ-loop
 loop-again c =
     let a = c .before .before .before .before .before .before .before .before .before .args in
@@ -77,21 +68,17 @@ loop-again c =
     let n = scan-next R (length t) (a .function) (a .q) (L .inv .0) (L .c) (L .inv .1) (c .before .before .before .before .before .loop-test .taken) (c .if1 .left) (ap (λ (r : Record). L .c + lengthOf r) (sym (record-bad (a .z) t (L .c) (sym (c .before .before .before .before .decode .ensures) ∙ c .before .before .d .given .1)))) in
     (n .0, n .1, L .inv .2 ∙ n .2)
 
--- src/plans.rt:474:26
 enum-known-d-2 : tie.Need-enum-known-d-2 Inv-loop μ-loop
 enum-known-d-2 c = search needs
 
--- src/plans.rt:475:25
 add-if2 : tie.Need-add-if2 Inv-loop μ-loop
 add-if2 c =
     let p = c .before .before .before .before .before .before .before .before .pre in
     omega (arith, p, c .before .before .before .before .loop-test .taken)
 
--- src/plans.rt:476:21
 mark-of-requires : tie.Need-mark-of-requires Inv-loop μ-loop
 mark-of-requires c κs = search needs
 
--- src/plans.rt:476:21
 returns-2 : tie.Need-returns-2 Inv-loop μ-loop
 returns-2 c =
     let a = c .before .before .before .before .before .before .before .before .before .before .args in
@@ -101,7 +88,6 @@ returns-2 c =
     let S = ap (λ (n : ℕ). scan R (length t) (length t) n (a .function) (a .q)) (sym (c .before .before .before .before .before .before .before .before .start-of .ensures .0)) ∙ L .inv .2 in
     c .mark-of .ensures ∙ sym (S ∙ scan-hit R (length t) (a .function) (a .q) (L .inv .0) (L .c) (L .inv .1) (c .before .before .before .before .before .before .loop-test .taken) (c .before .if2 .taken) ∙ ap (λ (r : Record). markOf r (a .function)) (record-got (a .z) t (L .c) (sym (c .before .before .before .before .before .decode .ensures) ∙ c .before .before .before .d2 .given .1)))
 
--- src/plans.rt:465:5
 loop-less-2 : tie.Need-loop-less-2 Inv-loop μ-loop
 loop-less-2 c =
     let a = c .before .before .before .before .before .before .before .before .before .args in
@@ -111,7 +97,6 @@ loop-less-2 c =
     let g = good (a .z) t (L .c) (sym (c .before .before .before .before .decode .ensures) ∙ c .before .before .d2 .given .1) in
     omega (arith, g .next, length-pos (c .before .before .d2 .given .0 .0), c .before .before .before .before .before .loop-test .taken)
 
--- src/plans.rt:465:5
 loop-again-2 : tie.Need-loop-again-2 Inv-loop μ-loop
 loop-again-2 c =
     let a = c .before .before .before .before .before .before .before .before .before .args in
@@ -122,7 +107,6 @@ loop-again-2 c =
     let n = scan-next R (length t) (a .function) (a .q) (L .inv .0) (L .c) (L .inv .1) (c .before .before .before .before .before .loop-test .taken) (c .if2 .left) (good (a .z) t (L .c) e .next ∙ ap (λ (r : Record). L .c + lengthOf r) (sym (record-got (a .z) t (L .c) e))) in
     (n .0, n .1, L .inv .2 ∙ n .2)
 
--- src/plans.rt:460:1
 returns-3 : tie.Need-returns-3 Inv-loop μ-loop
 returns-3 c =
     let a = c .before .before .before .before .args in

@@ -17,39 +17,30 @@ use Rattle.machine.proofs.plans.at_place.Reads as at-place-reads
 use Rattle.machine.proofs.plans.go.Reads as go-reads
 use Rattle.machine.proofs.plans.stop.Reads as stop-reads
 
--- src/plans.rt:234:9
 get-requires : tie.Need-get-requires
 get-requires c κs = search needs
 
--- src/plans.rt:236:9
 access-to-requires : tie.Need-access-to-requires
 access-to-requires c κs = search needs
 
--- src/plans.rt:238:21
 enum-known-a : tie.Need-enum-known-a
 enum-known-a c = search needs
 
--- src/plans.rt:238:27
 stop-requires : tie.Need-stop-requires
 stop-requires c κs = search needs
 
--- src/plans.rt:239:22
 enum-known-a-2 : tie.Need-enum-known-a-2
 enum-known-a-2 c = search needs
 
--- src/plans.rt:240:17
 get-requires-2 : tie.Need-get-requires-2
 get-requires-2 c κs = search needs
 
--- src/plans.rt:243:17
 at-place-requires : tie.Need-at-place-requires
 at-place-requires c κs = search needs
 
--- src/plans.rt:242:13
 go-requires : tie.Need-go-requires
 go-requires c κs = search needs
 
--- src/plans.rt:219:1
 returns : tie.Need-returns
 returns c =
     let a = c .before .before .before .before .before .before .before .before .args in
@@ -57,7 +48,6 @@ returns c =
     let A = sym (c .before .before .before .before .access-to .ensures ∙ ap (λ (v : ℕ). access T (a .array) v (a .s .mis) (a .dir)) (c .before .before .before .before .before .get .ensures)) ∙ c .before .before .a .given .1 in
     (λ m. store-bad T (a .s) (c .stop .result) (dataOf (a .s) (a .regs .now) m) (to (ctlOf (a .s)) (a .next)) (a .array) (a .index) (a .source) _ (a .s .mis) (a .dir) A (c .stop .ensures .0), lands T (c .stop .result) (c .stop .ensures .1) tt)
 
--- src/plans.rt:219:1
 returns-2 : tie.Need-returns-2
 returns-2 c =
     let a = c .before .before .before .before .before .before .before .before .before .before .args in

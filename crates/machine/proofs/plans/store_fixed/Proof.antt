@@ -11,15 +11,12 @@ use Rattle.machine.proofs.plans.store_fixed.Lts as lts
 use Rattle.machine.proofs.memory.get.Reads as get-reads
 use Rattle.machine.proofs.plans.plain_to.Reads as plain-to-reads
 
--- src/plans.rt:300:9
 get-requires : tie.Need-get-requires
 get-requires c κs = search needs
 
--- src/plans.rt:303:5
 plain-to-requires : tie.Need-plain-to-requires
 plain-to-requires c κs = search needs
 
--- src/plans.rt:287:1
 returns : tie.Need-returns
 returns c =
     let a = c .before .before .before .args in

@@ -9,47 +9,36 @@ use Rattle.machine.proofs.plans.stray_to.Reads as reads
 use Rattle.machine.proofs.plans.stray_to.Lts as lts
 use Rattle.machine.proofs.memory.words_of.Reads as words-of-reads
 
--- src/plans.rt:169:29
 enum-told : tie.Need-enum-told
 enum-told c = search needs
 
--- src/plans.rt:170:27
 enum-known-dir : tie.Need-enum-known-dir
 enum-known-dir c = search needs
 
--- src/plans.rt:171:25
 enum-known-dir-2 : tie.Need-enum-known-dir-2
 enum-known-dir-2 c = search needs
 
--- src/plans.rt:172:26
 enum-known-dir-3 : tie.Need-enum-known-dir-3
 enum-known-dir-3 c = search needs
 
--- src/plans.rt:174:17
 returns : tie.Need-returns
 returns c = stray-none (tableWith (c .before .before .before .before .before .before .args .z) (c .before .before .before .before .before .before .args .t .now)) (c .before .before .before .dir3 .given .0 .0) (c .before .before .before .dir3 .given .0 .1 .0) (c .before .before .before .dir3 .given .1) (c .if1 .taken)
 
--- src/plans.rt:176:20
 words-of-requires : tie.Need-words-of-requires
 words-of-requires c κs = search needs
 
--- src/plans.rt:177:17
 returns-2 : tie.Need-returns-2
 returns-2 c = stray-in (tableWith (c .before .before .before .before .before .before .before .before .args .z) (c .before .before .before .before .before .before .before .before .args .t .now)) (c .before .before .before .before .before .dir3 .given .0 .0) (c .before .before .before .before .before .dir3 .given .0 .1 .0) (c .before .before .before .before .before .dir3 .given .1) (c .before .before .if1 .left) (subst (λ (n : ℕ). c .before .before .before .before .before .dir3 .given .0 .1 .0 < n) (c .before .words-of .ensures .0) (c .if2 .taken))
 
--- src/plans.rt:165:1
 returns-3 : tie.Need-returns-3
 returns-3 c = search needs
 
--- src/plans.rt:165:1
 returns-4 : tie.Need-returns-4
 returns-4 c = search needs
 
--- src/plans.rt:165:1
 returns-5 : tie.Need-returns-5
 returns-5 c = search needs
 
--- src/plans.rt:165:1
 returns-6 : tie.Need-returns-6
 returns-6 c = stray-out (tableWith (c .before .before .before .before .before .before .before .before .args .z) (c .before .before .before .before .before .before .before .before .args .t .now)) (c .before .before .before .before .before .dir3 .given .0 .0) (c .before .before .before .before .before .dir3 .given .0 .1 .0) (c .before .before .before .before .before .dir3 .given .1) (c .before .before .if1 .left) (subst (λ (n : ℕ). n ≤ c .before .before .before .before .before .dir3 .given .0 .1 .0) (c .before .words-of .ensures .0) (c .if2 .left))
 

@@ -5,15 +5,12 @@ use Rattle.machine.proofs.plans.times.Tie as tie
 use Rattle.machine.proofs.plans.times.Reads as reads
 use Rattle.machine.proofs.plans.times.Lts as lts
 
--- src/plans.rt:115:6
 mul-result : tie.Need-mul-result
 mul-result c = record { fits = product (search needs) (search needs) }
 
--- src/plans.rt:115:5
 cast-result : tie.Need-cast-result
 cast-result c = search needs
 
--- src/plans.rt:112:1
 returns : tie.Need-returns
 returns c = search needs
 

@@ -9,38 +9,30 @@ use Rattle.machine.proofs.plans.top_is.Tie as tie
 use Rattle.machine.proofs.plans.top_is.Reads as reads
 use Rattle.machine.proofs.plans.top_is.Lts as lts
 
--- src/plans.rt:522:9
 returns : tie.Need-returns
 returns c = search needs
 
--- src/plans.rt:525:9
 returns-2 : tie.Need-returns-2
 returns-2 c =
     let a = c .before .before .args in
     let g : length (a .s .stack) ≡ 32 = sym (length-map (a .s .stack) (λ (v : ℕ). v)) ∙ c .before .before .good .0 .1 .1 .0 .1 .0 .1 in
     top-out (a .s .stack) (a .s .depth) (a .q) (omega (arith, g)) (c .if2 .taken)
 
--- src/plans.rt:528:14
 sub-k : tie.Need-sub-k
 sub-k c = search needs
 
--- src/plans.rt:528:13
 cast-k : tie.Need-cast-k
 cast-k c = search needs
 
--- src/plans.rt:529:5
 mul-result : tie.Need-mul-result
 mul-result c = search needs
 
--- src/plans.rt:529:5
 array-read-result : tie.Need-array-read-result
 array-read-result c = search needs
 
--- src/plans.rt:529:5
 cast-result : tie.Need-cast-result
 cast-result c = search needs
 
--- src/plans.rt:517:1
 returns-3 : tie.Need-returns-3
 returns-3 c =
     let a = c .before .before .before .args in

@@ -11,21 +11,17 @@ use Rattle.machine.proofs.plans.updated.Reads as reads
 use Rattle.machine.proofs.plans.updated.Lts as lts
 use Rattle.machine.proofs.plans.plain_to.Reads as plain-to-reads
 
--- src/plans.rt:267:9
 plain-to-requires : tie.Need-plain-to-requires
 plain-to-requires c κs = search needs
 
--- src/plans.rt:267:9
 returns : tie.Need-returns
 returns c =
     let a = c .before .before .args in
     (λ t x. c .plain-to .ensures .0 t x ∙ ap (λ (b : Bool). plainly t (a .dir) (a .s) (a .next) None b Nothing x) (sym (picked (a .held) (a .s .masked) true (c .before .if1 .taken))), λ t. c .plain-to .ensures .1 t tt)
 
--- src/plans.rt:269:5
 plain-to-requires-2 : tie.Need-plain-to-requires-2
 plain-to-requires-2 c κs = search needs
 
--- src/plans.rt:261:1
 returns-2 : tie.Need-returns-2
 returns-2 c =
     let a = c .before .before .args in

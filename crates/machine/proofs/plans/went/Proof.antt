@@ -8,19 +8,15 @@ use Rattle.machine.proofs.plans.condition.Reads as condition-reads
 use Rattle.machine.proofs.plans.mis_by.Reads as mis-by-reads
 use Rattle.machine.proofs.plans.place_by.Reads as place-by-reads
 
--- src/plans.rt:415:16
 place-by-requires : tie.Need-place-by-requires
 place-by-requires c κs = search needs
 
--- src/plans.rt:418:26
 condition-requires : tie.Need-condition-requires
 condition-requires c κs = search needs
 
--- src/plans.rt:418:14
 mis-by-requires : tie.Need-mis-by-requires
 mis-by-requires c κs = search needs
 
--- src/plans.rt:409:1
 returns : tie.Need-returns
 returns c = (rw (c .mis-by .ensures, c .before .condition .ensures, c .before .before .place-by .ensures) refl, refl)
 

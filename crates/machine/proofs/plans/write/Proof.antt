@@ -5,11 +5,9 @@ use Rattle.machine.proofs.plans.write.Reads as reads
 use Rattle.machine.proofs.plans.write.Lts as lts
 use Rattle.machine.proofs.plans.plain_to.Reads as plain-to-reads
 
--- src/plans.rt:278:5
 plain-to-requires : tie.Need-plain-to-requires
 plain-to-requires c κs = search needs
 
--- src/plans.rt:273:1
 returns : tie.Need-returns
 returns c = (c .plain-to .ensures .0, λ t. c .plain-to .ensures .1 t tt)
 

@@ -1,4 +1,4 @@
-use Prim.Native.Nat.{ℕ, _+_, _<_}
+use Prim.Native.Nat.{ℕ, _+_}
 use native.Mathlib.Omega.{arith}
 use mathlib.Core.Path.{_≡_, refl, sym, ap, _∙_}
 use lib.ListN.{length, set, length-map}
@@ -14,69 +14,54 @@ use Rattle.machine.proofs.states.moved.Lts as lts
 use Rattle.machine.proofs.states.at_depth.Reads as at-depth-reads
 use Rattle.machine.proofs.states.one_less.Reads as one-less-reads
 
--- src/states.rt:45:39
 enum-told : tie.Need-enum-told
 enum-told c = search needs
 
--- src/states.rt:45:27
 at-depth-requires : tie.Need-at-depth-requires
 at-depth-requires c κs = search needs
 
--- src/states.rt:46:24
 enum-known-k : tie.Need-enum-known-k
 enum-known-k c = search needs
 
--- src/states.rt:47:21
 cast-i : tie.Need-cast-i
 cast-i c = search needs
 
--- src/states.rt:48:13
 mul-stack : tie.Need-mul-stack
 mul-stack c = search needs
 
--- src/states.rt:48:13
 array-write-stack : tie.Need-array-write-stack
 array-write-stack c =
     let room = c .before .before .before .before .pre _ (c .before .k .given .1) in
     omega (arith, room)
 
--- src/states.rt:49:32
 add-at-depth : tie.Need-add-at-depth
 add-at-depth c =
     let room = c .before .before .before .before .pre _ (c .before .k .given .1) in
     search needs
 
--- src/states.rt:49:13
 at-depth-requires-2 : tie.Need-at-depth-requires-2
 at-depth-requires-2 c κs = search needs
 
--- src/states.rt:51:38
 enum-told-2 : tie.Need-enum-told-2
 enum-told-2 c = search needs
 
--- src/states.rt:51:45
 one-less-requires : tie.Need-one-less-requires
 one-less-requires c κs = search needs
 
--- src/states.rt:51:26
 at-depth-requires-3 : tie.Need-at-depth-requires-3
 at-depth-requires-3 c κs = search needs
 
--- src/states.rt:52:40
 enum-told-3 : tie.Need-enum-told-3
 enum-told-3 c = search needs
 
--- src/states.rt:52:28
 at-depth-requires-4 : tie.Need-at-depth-requires-4
 at-depth-requires-4 c κs = search needs
 
--- src/states.rt:37:1
 returns : tie.Need-returns
 returns c =
     let a = c .before .before .before .before .args in
     settled (a .s) (a .n) _ Same (a .s .stack) (a .s .depth) (c .before .enum-told .given .1) (c .at-depth .ensures) refl refl
 
--- src/states.rt:37:1
 returns-2 : tie.Need-returns-2
 returns-2 c =
     let a = c .before .before .before .before .before .args in
@@ -85,13 +70,11 @@ returns-2 c =
     let long : length (a .s .stack) ≡ 32 = sym (length-map (a .s .stack) (λ (v : ℕ). v)) ∙ c .before .before .before .before .before .good .0 .1 .1 .0 .1 .0 .1 in
     settled (a .s) (a .n) _ (Push q) (set (a .s .stack) (a .s .depth) q) (a .s .depth + 1) (c .before .before .k .given .1) (c .at-depth2 .ensures) (pushes (a .s .stack) (a .s .depth) q (a .s .depth + 1) q (omega (arith, room, long)) (omega arith) refl) refl
 
--- src/states.rt:37:1
 returns-3 : tie.Need-returns-3
 returns-3 c =
     let a = c .before .before .before .before .before .args in
     settled (a .s) (a .n) _ Pop (a .s .stack) (c .before .one-less .result) (c .before .before .enum-told2 .given .1) (c .at-depth3 .ensures) (ap (λ (d : ℕ). stackOf d (a .s .stack)) (c .before .one-less .ensures) ∙ pops (a .s .stack) (a .s .depth)) refl
 
--- src/states.rt:37:1
 returns-4 : tie.Need-returns-4
 returns-4 c =
     let a = c .before .before .before .before .args in

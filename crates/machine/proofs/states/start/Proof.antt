@@ -1,4 +1,4 @@
-use mathlib.Core.Path.{_≡_, refl}
+use mathlib.Core.Path.{refl}
 use borrow.Author.Needs.{needs}
 use Rattle.machine.proofs.states.start.Statement.{statement}
 use Rattle.machine.proofs.states.start.Tie as tie
@@ -7,15 +7,12 @@ use Rattle.machine.proofs.states.start.Lts as lts
 use Rattle.layout.proofs.start_of.Reads as start-of-reads
 use Rattle.machine.proofs.states.one_less.Reads as one-less-reads
 
--- src/steps.rt:119:9
 one-less-requires : tie.Need-one-less-requires
 one-less-requires c κs = search needs
 
--- src/steps.rt:121:16
 start-of-requires : tie.Need-start-of-requires
 start-of-requires c κs = search needs
 
--- src/steps.rt:116:1
 returns : tie.Need-returns
 returns c = (rw (c .start-of .ensures .0, c .before .one-less .ensures), refl)
 

@@ -1,7 +1,7 @@
-use Prim.Native.Nat.{ℕ, _-_, _≤_, _<_}
+use Prim.Native.Nat.{_-_}
 use native.Mathlib.Omega.{arith}
 use mathlib.Core.Bool.{false}
-use mathlib.Core.Path.{_≡_, refl, sym, ap, subst, _∙_}
+use mathlib.Core.Path.{_≡_, refl}
 use borrow.Author.Needs.{needs}
 use lib.ListN.{length}
 use Rattle.format.specs.Layout.{tableWith}
@@ -28,11 +28,9 @@ Inv-loop t z regs₀ mem₀ dirs obs₀ s₀ at₀ seen₀ steps₀ regs mem obs
 abbrev μ-loop : tie.MeasureT-loop
 μ-loop t z regs₀ mem₀ dirs obs₀ s₀ at₀ seen₀ steps₀ regs mem obs s at seen steps = length dirs - at
 
--- src/steps.rt:141:9
 start-requires : tie.Need-start-requires Inv-loop μ-loop
 start-requires c κs = search needs
 
--- src/steps.rt:145:5
 loop-holds : tie.Need-loop-holds Inv-loop μ-loop
 loop-holds c =
     let a = c .before .before .before .before .before .before .args in
@@ -40,29 +38,24 @@ loop-holds c =
     let e = c .start .ensures in
     (pre .0, going-start (a .t .now) (a .z) (pre .0) (a .dirs .now) (lent (a .regs .now) (a .mem .now) (a .obs .now)) (c .start .result) (e .0) (e .1) (pre .1), refl, refl, refl)
 
--- src/steps.rt:146:13
 one-turn-requires : tie.Need-one-turn-requires Inv-loop μ-loop
 one-turn-requires c κs =
     let a = c .before .before .before .before .before .before .before .before .before .before .args in
     let L = c .before .before .before .loop in
     (ready (a .t .now) (a .z) (L .inv .0) (L .s) (L .mem) (L .inv .1 .stands) (L .inv .1 .long), L .inv .1 .seen-in)
 
--- src/steps.rt:149:13
 same-length : tie.Need-same-length Inv-loop μ-loop
 same-length c =
     omega (arith, c .before .before .before .before .before .before .before .before .before .one-turn .kept .1 .1 .1 .1 .1 .1 .0, c .before .before .before .before .before .before .before .before .before .before .before .before .before .loop .inv .2)
 
--- src/steps.rt:149:13
 same-length-2 : tie.Need-same-length-2 Inv-loop μ-loop
 same-length-2 c =
     omega (arith, c .before .before .before .before .before .before .before .before .before .one-turn .kept .1 .1 .1 .1 .1 .1 .1 .0, c .before .before .before .before .before .before .before .before .before .before .before .before .before .loop .inv .3)
 
--- src/steps.rt:149:13
 same-length-3 : tie.Need-same-length-3 Inv-loop μ-loop
 same-length-3 c =
     omega (arith, c .before .before .before .before .before .before .before .before .before .one-turn .kept .1 .1 .1 .1 .1 .1 .1 .1 .0, c .before .before .before .before .before .before .before .before .before .before .before .before .before .loop .inv .4)
 
--- src/steps.rt:149:13
 returns : tie.Need-returns Inv-loop μ-loop
 returns c =
     let a = c .before .before .before .before .before .before .before .before .before .before .before .before .before .before .before .before .before .before .before .before .args in
@@ -70,14 +63,12 @@ returns c =
     let w = c .before .before .before .before .before .before .before .before .before .one-turn .ensures .1 (c .if1 .taken) in
     halts (a .t .now) (a .z) (L .inv .0) (startCtl (tableWith (a .z) (a .t .now)) false) (words (a .regs .now) (a .mem .now) false) (a .dirs .now) (a .obs .now) (L .s) (L .at) (L .seen) (L .steps) (lent (L .regs) (L .mem) (L .obs)) (L .inv .1) (c .before .before .before .before .before .before .before .before .before .one-turn .result) _ w
 
--- src/steps.rt:160:9
 add-steps : tie.Need-add-steps Inv-loop μ-loop
 add-steps c =
     let L = c .before .before .before .before .before .before .before .before .before .before .before .before .before .loop in
     let w = c .before .before .before .before .before .before .before .before .before .one-turn .ensures .0 (c .if1 .left) in
     omega (arith, w .inside, L .inv .1 .few, L .inv .1 .at-in, c .before .before .before .before .before .before .before .before .before .before .before .before .before .before .before .before .before .before .before .before .good .1 .1 .1 .1 .0 .0)
 
--- src/steps.rt:145:5
 loop-less : tie.Need-loop-less Inv-loop μ-loop
 loop-less c =
     let a = c .before .before .before .before .before .before .before .before .before .before .before .before .before .before .before .before .before .before .before .before .args in
@@ -87,7 +78,6 @@ loop-less c =
     let at = w .at′ in
     omega (arith, on .0, on .1, at)
 
--- src/steps.rt:145:5
 loop-again : tie.Need-loop-again Inv-loop μ-loop
 loop-again c =
     let a = c .before .before .before .before .before .before .before .before .before .before .before .before .before .before .before .before .before .before .before .before .args in

@@ -1,5 +1,4 @@
-use native.Mathlib.Omega.{arith}
-use mathlib.Core.Path.{_≡_, refl, sym, ap, subst, _∙_}
+use mathlib.Core.Path.{refl, sym, _∙_}
 use Rattle.machine.specs.Turns.{lent}
 use Rattle.machine.proofs.Stepping.{turn-over, turn-used, turn-bad, turn-acts}
 use borrow.Author.Needs.{needs}
@@ -12,16 +11,12 @@ use Rattle.machine.proofs.steps.lent_step.Reads as lent-step-reads
 use Rattle.machine.proofs.steps.ended.Reads as ended-reads
 use Rattle.machine.proofs.steps.last_place.Reads as last-place-reads
 
--- src/steps.rt:103:17
-
 last-place-requires : tie.Need-last-place-requires
 last-place-requires c κs = search needs
 
--- src/steps.rt:104:9
 ended-requires : tie.Need-ended-requires
 ended-requires c κs = search needs
 
--- src/steps.rt:104:9
 returns : tie.Need-returns
 returns c =
     let a = c .before .before .before .before .before .before .before .before .args in
@@ -29,11 +24,9 @@ returns c =
     let last = c .before .before .last-place .ensures in
     turn-over (a .z) (a .t .now) (a .s) (a .dirs .now) (a .at) (a .seen) (lent (a .regs .now) (a .mem .now) (a .obs .now)) ready _ (c .before .if1 .taken ∙ last) (c .ended .ensures .0) (c .ended .ensures .1)
 
--- src/steps.rt:107:9
 ended-requires-2 : tie.Need-ended-requires-2
 ended-requires-2 c κs = search needs
 
--- src/steps.rt:107:9
 returns-2 : tie.Need-returns-2
 returns-2 c =
     let a = c .before .before .before .before .before .before .before .before .before .args in
@@ -41,27 +34,21 @@ returns-2 c =
     let last = c .before .before .before .last-place .ensures in
     turn-used (a .z) (a .t .now) (a .s) (a .dirs .now) (a .at) (a .seen) (lent (a .regs .now) (a .mem .now) (a .obs .now)) ready _ (λ q. c .before .before .if1 .left (q ∙ sym last)) (c .before .if2 .taken) (c .ended2 .ensures .0) (c .ended2 .ensures .1)
 
--- src/steps.rt:109:9
 directive-at-requires : tie.Need-directive-at-requires
 directive-at-requires c κs = search needs
 
--- src/steps.rt:111:22
 enum-told : tie.Need-enum-told
 enum-told c = search needs
 
--- src/steps.rt:111:22
 ended-requires-3 : tie.Need-ended-requires-3
 ended-requires-3 c κs = search needs
 
--- src/steps.rt:112:19
 enum-known-told : tie.Need-enum-known-told
 enum-known-told c = search needs
 
--- src/steps.rt:112:33
 lent-step-requires : tie.Need-lent-step-requires
 lent-step-requires c κs = search needs
 
--- src/steps.rt:87:1
 returns-3 : tie.Need-returns-3
 returns-3 c =
     let a = c .before .before .before .before .before .before .before .before .before .before .before .before .args in
@@ -69,19 +56,15 @@ returns-3 c =
     let last = c .before .before .before .before .before .before .last-place .ensures in
     turn-bad (a .z) (a .t .now) (a .s) (a .dirs .now) (a .at) (a .seen) (lent (a .regs .now) (a .mem .now) (a .obs .now)) ready _ (λ q. c .before .before .before .before .before .if1 .left (q ∙ sym last)) (c .before .before .before .before .if2 .left) (sym (c .before .before .before .directive-at .ensures) ∙ c .before .enum-told .given .1) (c .ended3 .ensures .0) (c .ended3 .ensures .1)
 
--- src/steps.rt:87:1
 same-length : tie.Need-same-length
 same-length c = search needs
 
--- src/steps.rt:87:1
 same-length-2 : tie.Need-same-length-2
 same-length-2 c = search needs
 
--- src/steps.rt:87:1
 same-length-3 : tie.Need-same-length-3
 same-length-3 c = search needs
 
--- src/steps.rt:87:1
 returns-4 : tie.Need-returns-4
 returns-4 c =
     let a = c .before .before .before .before .before .before .before .before .before .before .before .before .before .before .before .before .before .before .before .before .before .before .before .args in

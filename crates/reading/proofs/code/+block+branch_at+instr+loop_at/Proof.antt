@@ -70,7 +70,6 @@ block-Inv-loop t z cur c from depth at₀ at = (k : ℕ) × (length t - at ≤ k
 abbrev block-μ-loop : block-lts.MeasureT-loop
 block-μ-loop t z cur c from depth at₀ at = length t - at
 
--- src/code.rt:125:5
 block-loop-holds :
     (t : ℕ) →
     block-lts.Need-loop-holds
@@ -83,7 +82,6 @@ unfolding blockAt
 block-loop-holds t c =
     let a = c .before .args in (length (a .t .now), omega arith, refl)
 
--- src/code.rt:126:13
 block-instr-requires :
     (t : ℕ) →
     block-lts.Need-instr-requires
@@ -94,7 +92,6 @@ block-instr-requires :
     block-μ-loop
 block-instr-requires t c κs = search needs
 
--- src/code.rt:128:26
 block-enum-known-one :
     (t : ℕ) →
     block-lts.Need-enum-known-one
@@ -105,7 +102,6 @@ block-enum-known-one :
     block-μ-loop
 block-enum-known-one t c = search needs
 
--- src/code.rt:125:5
 block-loop-less :
     (t : ℕ) →
     block-lts.Need-loop-less
@@ -122,7 +118,6 @@ block-loop-less t c =
     let ok = subst (Ok (a .z) (a .t .now) (a .c) at) e (instr-ok (a .depth) (a .cur) (a .z) (a .t .now) (a .c) at) in
     omega (arith, ok .0, ok .1)
 
--- src/code.rt:125:5
 block-loop-again :
     (t : ℕ) →
     block-lts.Need-loop-again
@@ -139,7 +134,6 @@ block-loop-again t c =
     let n = turn-next (a .depth) (a .cur) (a .z) (a .t .now) (a .c) (inv .0) at _ e (inv .1) in
     (n .0, n .1, inv .2 ∙ n .2)
 
--- src/code.rt:131:26
 block-enum-known-one-2 :
     (t : ℕ) →
     block-lts.Need-enum-known-one-2
@@ -150,7 +144,6 @@ block-enum-known-one-2 :
     block-μ-loop
 block-enum-known-one-2 t c = search needs
 
--- src/code.rt:132:17
 block-returns :
     (t : ℕ) →
     block-lts.Need-returns
@@ -166,7 +159,6 @@ block-returns t c =
     let e = sym (c .before .before .before .instr .ensures) ∙ c .before .one2 .given .1 in
     sym (inv .2 ∙ turn-shut (a .depth) (a .cur) (a .z) (a .t .now) (a .c) (inv .0) at _ e (inv .1))
 
--- src/code.rt:134:27
 block-enum-known-one-3 :
     (t : ℕ) →
     block-lts.Need-enum-known-one-3
@@ -177,7 +169,6 @@ block-enum-known-one-3 :
     block-μ-loop
 block-enum-known-one-3 t c = search needs
 
--- src/code.rt:135:17
 block-returns-2 :
     (t : ℕ) →
     block-lts.Need-returns-2
@@ -193,7 +184,6 @@ block-returns-2 t c =
     let e = sym (c .before .before .before .instr .ensures) ∙ c .before .one3 .given .1 in
     sym (inv .2 ∙ turn-fault (a .depth) (a .cur) (a .z) (a .t .now) (a .c) (inv .0) at _ _ e (inv .1))
 
--- src/code.rt:62:9
 branch-at-returns : (t : ℕ) → branch-at-lts.Need-returns (
   block-below t,
   block.Post,
@@ -206,7 +196,6 @@ unfolding ifWith
 branch-at-returns t c =
     simp (c .if1 .taken)
 
--- src/code.rt:64:44
 branch-at-sub-block : (t : ℕ) → branch-at-lts.Need-sub-block (
   block-below t,
   block.Post,
@@ -217,7 +206,6 @@ branch-at-sub-block : (t : ℕ) → branch-at-lts.Need-sub-block (
 ) (branch-at-at t) branch-at.Post
 branch-at-sub-block t c = search needs
 
--- src/code.rt:64:9
 branch-at-block-requires : (t : ℕ) → branch-at-lts.Need-block-requires (
   block-below t,
   block.Post,
@@ -228,7 +216,6 @@ branch-at-block-requires : (t : ℕ) → branch-at-lts.Need-block-requires (
 ) (branch-at-at t) branch-at.Post
 branch-at-block-requires t c κs = search needs
 
--- src/code.rt:66:22
 branch-at-enum-known-first : (t : ℕ) → branch-at-lts.Need-enum-known-first (
   block-below t,
   block.Post,
@@ -239,7 +226,6 @@ branch-at-enum-known-first : (t : ℕ) → branch-at-lts.Need-enum-known-first (
 ) (branch-at-at t) branch-at.Post
 branch-at-enum-known-first t c = search needs
 
--- src/code.rt:67:23
 branch-at-enum-known-first-2 : (t : ℕ) → branch-at-lts.Need-enum-known-first-2 (
   block-below t,
   block.Post,
@@ -250,7 +236,6 @@ branch-at-enum-known-first-2 : (t : ℕ) → branch-at-lts.Need-enum-known-first
 ) (branch-at-at t) branch-at.Post
 branch-at-enum-known-first-2 t c = search needs
 
--- src/code.rt:68:22
 branch-at-enum-known-first-3 : (t : ℕ) → branch-at-lts.Need-enum-known-first-3 (
   block-below t,
   block.Post,
@@ -261,7 +246,6 @@ branch-at-enum-known-first-3 : (t : ℕ) → branch-at-lts.Need-enum-known-first
 ) (branch-at-at t) branch-at.Post
 branch-at-enum-known-first-3 t c = search needs
 
--- src/code.rt:70:17
 branch-at-returns-2 : (t : ℕ) → branch-at-lts.Need-returns-2 (
   block-below t,
   block.Post,
@@ -276,7 +260,6 @@ branch-at-returns-2 t c =
     let b = sym (c .before .before .before .before .block .ensures) ∙ c .before .before .first3 .given .1 in
     if-missed (a .depth) (a .cur) (a .z) (a .t .now) (a .at) (a .next) (a .to) h b (c .if2 .taken)
 
--- src/code.rt:72:47
 branch-at-add-block : (t : ℕ) → branch-at-lts.Need-add-block (
   block-below t,
   block.Post,
@@ -290,7 +273,6 @@ branch-at-add-block t c =
     let w = shut-else (a .depth - 1) (a .cur) (a .z) (a .t .now) (a .next) (sym (c .before .before .before .before .block .ensures) ∙ c .before .before .first3 .given .1) in
     search needs
 
--- src/code.rt:72:54
 branch-at-sub-block-2 : (t : ℕ) → branch-at-lts.Need-sub-block-2 (
   block-below t,
   block.Post,
@@ -301,7 +283,6 @@ branch-at-sub-block-2 : (t : ℕ) → branch-at-lts.Need-sub-block-2 (
 ) (branch-at-at t) branch-at.Post
 branch-at-sub-block-2 t c = search needs
 
--- src/code.rt:72:17
 branch-at-block-requires-2 : (t : ℕ) → branch-at-lts.Need-block-requires-2 (
   block-below t,
   block.Post,
@@ -312,7 +293,6 @@ branch-at-block-requires-2 : (t : ℕ) → branch-at-lts.Need-block-requires-2 (
 ) (branch-at-at t) branch-at.Post
 branch-at-block-requires-2 t c κs = search needs
 
--- src/code.rt:74:30
 branch-at-enum-known-second : (t : ℕ) → branch-at-lts.Need-enum-known-second (
   block-below t,
   block.Post,
@@ -323,7 +303,6 @@ branch-at-enum-known-second : (t : ℕ) → branch-at-lts.Need-enum-known-second
 ) (branch-at-at t) branch-at.Post
 branch-at-enum-known-second t c = search needs
 
--- src/code.rt:75:31
 branch-at-enum-known-second-2 : (t : ℕ) → branch-at-lts.Need-enum-known-second-2 (
   block-below t,
   block.Post,
@@ -334,7 +313,6 @@ branch-at-enum-known-second-2 : (t : ℕ) → branch-at-lts.Need-enum-known-seco
 ) (branch-at-at t) branch-at.Post
 branch-at-enum-known-second-2 t c = search needs
 
--- src/code.rt:76:30
 branch-at-enum-known-second-3 : (t : ℕ) → branch-at-lts.Need-enum-known-second-3 (
   block-below t,
   block.Post,
@@ -345,7 +323,6 @@ branch-at-enum-known-second-3 : (t : ℕ) → branch-at-lts.Need-enum-known-seco
 ) (branch-at-at t) branch-at.Post
 branch-at-enum-known-second-3 t c = search needs
 
--- src/code.rt:76:66
 branch-at-add-place-at : (t : ℕ) → branch-at-lts.Need-add-place-at (
   block-below t,
   block.Post,
@@ -359,7 +336,6 @@ branch-at-add-place-at t c =
     let w = shut-else (a .depth - 1) (a .cur) (a .z) (a .t .now) (a .next) (sym (c .before .before .before .before .before .before .before .before .block .ensures) ∙ c .before .before .before .before .before .before .first3 .given .1) in
     search needs
 
--- src/code.rt:76:46
 branch-at-place-at-requires : (t : ℕ) → branch-at-lts.Need-place-at-requires (
   block-below t,
   block.Post,
@@ -370,7 +346,6 @@ branch-at-place-at-requires : (t : ℕ) → branch-at-lts.Need-place-at-requires
 ) (branch-at-at t) branch-at.Post
 branch-at-place-at-requires t c κs = search needs
 
--- src/code.rt:76:77
 branch-at-add-met-at : (t : ℕ) → branch-at-lts.Need-add-met-at (
   block-below t,
   block.Post,
@@ -384,7 +359,6 @@ branch-at-add-met-at t c =
     let w = shut-one (a .depth - 1) (a .cur) (a .z) (a .t .now) 34 _ (sym (c .before .before .before .before .block2 .ensures) ∙ c .before .before .second3 .given .1) in
     search needs
 
--- src/code.rt:76:36
 branch-at-met-at-requires : (t : ℕ) → branch-at-lts.Need-met-at-requires (
   block-below t,
   block.Post,
@@ -395,7 +369,6 @@ branch-at-met-at-requires : (t : ℕ) → branch-at-lts.Need-met-at-requires (
 ) (branch-at-at t) branch-at.Post
 branch-at-met-at-requires t c κs = search needs
 
--- src/code.rt:58:1
 branch-at-returns-3 : (t : ℕ) → branch-at-lts.Need-returns-3 (
   block-below t,
   block.Post,
@@ -410,7 +383,6 @@ branch-at-returns-3 t c =
     let b = sym (c .before .before .before .block .ensures) ∙ c .before .first .given .1 in
     if-is (a .depth) (a .cur) (a .z) (a .t .now) (a .at) (a .next) (a .to) h b
 
--- src/code.rt:58:1
 branch-at-returns-4 : (t : ℕ) → branch-at-lts.Need-returns-4 (
   block-below t,
   block.Post,
@@ -425,7 +397,6 @@ branch-at-returns-4 t c =
     let b = sym (c .before .before .before .block .ensures) ∙ c .before .first2 .given .1 in
     if-is (a .depth) (a .cur) (a .z) (a .t .now) (a .at) (a .next) (a .to) h b
 
--- src/code.rt:58:1
 branch-at-returns-5 : (t : ℕ) → branch-at-lts.Need-returns-5 (
   block-below t,
   block.Post,
@@ -441,7 +412,6 @@ branch-at-returns-5 t c =
     let d = sym (c .before .before .before .block2 .ensures) ∙ c .before .second .given .1 in
     if-met (a .depth) (a .cur) (a .z) (a .t .now) (a .at) (a .next) (a .to) h b (c .before .before .before .before .if2 .left) d
 
--- src/code.rt:58:1
 branch-at-returns-6 : (t : ℕ) → branch-at-lts.Need-returns-6 (
   block-below t,
   block.Post,
@@ -457,7 +427,6 @@ branch-at-returns-6 t c =
     let d = sym (c .before .before .before .block2 .ensures) ∙ c .before .second2 .given .1 in
     if-met (a .depth) (a .cur) (a .z) (a .t .now) (a .at) (a .next) (a .to) h b (c .before .before .before .before .if2 .left) d
 
--- src/code.rt:58:1
 branch-at-returns-7 : (t : ℕ) → branch-at-lts.Need-returns-7 (
   block-below t,
   block.Post,
@@ -473,7 +442,6 @@ branch-at-returns-7 t c =
     let d = sym (c .before .before .before .before .before .block2 .ensures) ∙ c .before .before .before .second3 .given .1 in
     rw (c .met-at .ensures, c .before .place-at .ensures .0) (if-met (a .depth) (a .cur) (a .z) (a .t .now) (a .at) (a .next) (a .to) h b (c .before .before .before .before .before .before .if2 .left) d)
 
--- src/code.rt:105:9
 instr-record-requires : (t : ℕ) → instr-lts.Need-record-requires (
   record-reads.Asked,
   record-reads.Learnt,
@@ -486,7 +454,6 @@ instr-record-requires : (t : ℕ) → instr-lts.Need-record-requires (
 ) (instr-at t) instr.Post
 instr-record-requires t c κs = search needs
 
--- src/code.rt:107:22
 instr-enum-known-d : (t : ℕ) → instr-lts.Need-enum-known-d (
   record-reads.Asked,
   record-reads.Learnt,
@@ -499,7 +466,6 @@ instr-enum-known-d : (t : ℕ) → instr-lts.Need-enum-known-d (
 ) (instr-at t) instr.Post
 instr-enum-known-d t c = search needs
 
--- src/code.rt:108:22
 instr-enum-known-d-2 : (t : ℕ) → instr-lts.Need-enum-known-d-2 (
   record-reads.Asked,
   record-reads.Learnt,
@@ -512,7 +478,6 @@ instr-enum-known-d-2 : (t : ℕ) → instr-lts.Need-enum-known-d-2 (
 ) (instr-at t) instr.Post
 instr-enum-known-d-2 t c = search needs
 
--- src/code.rt:109:24
 instr-enum-known-r : (t : ℕ) → instr-lts.Need-enum-known-r (
   record-reads.Asked,
   record-reads.Learnt,
@@ -525,7 +490,6 @@ instr-enum-known-r : (t : ℕ) → instr-lts.Need-enum-known-r (
 ) (instr-at t) instr.Post
 instr-enum-known-r t c = search needs
 
--- src/code.rt:110:28
 instr-enum-known-r-2 : (t : ℕ) → instr-lts.Need-enum-known-r-2 (
   record-reads.Asked,
   record-reads.Learnt,
@@ -538,7 +502,6 @@ instr-enum-known-r-2 : (t : ℕ) → instr-lts.Need-enum-known-r-2 (
 ) (instr-at t) instr.Post
 instr-enum-known-r-2 t c = search needs
 
--- src/code.rt:110:48
 instr-call-at-requires : (t : ℕ) → instr-lts.Need-call-at-requires (
   record-reads.Asked,
   record-reads.Learnt,
@@ -551,7 +514,6 @@ instr-call-at-requires : (t : ℕ) → instr-lts.Need-call-at-requires (
 ) (instr-at t) instr.Post
 instr-call-at-requires t c κs = search needs
 
--- src/code.rt:111:26
 instr-enum-known-r-3 : (t : ℕ) → instr-lts.Need-enum-known-r-3 (
   record-reads.Asked,
   record-reads.Learnt,
@@ -564,7 +526,6 @@ instr-enum-known-r-3 : (t : ℕ) → instr-lts.Need-enum-known-r-3 (
 ) (instr-at t) instr.Post
 instr-enum-known-r-3 t c = search needs
 
--- src/code.rt:111:44
 instr-branch-at-requires : (t : ℕ) → instr-lts.Need-branch-at-requires (
   record-reads.Asked,
   record-reads.Learnt,
@@ -577,7 +538,6 @@ instr-branch-at-requires : (t : ℕ) → instr-lts.Need-branch-at-requires (
 ) (instr-at t) instr.Post
 instr-branch-at-requires t c κs = search needs
 
--- src/code.rt:112:28
 instr-enum-known-r-4 : (t : ℕ) → instr-lts.Need-enum-known-r-4 (
   record-reads.Asked,
   record-reads.Learnt,
@@ -590,7 +550,6 @@ instr-enum-known-r-4 : (t : ℕ) → instr-lts.Need-enum-known-r-4 (
 ) (instr-at t) instr.Post
 instr-enum-known-r-4 t c = search needs
 
--- src/code.rt:113:30
 instr-enum-told : (t : ℕ) → instr-lts.Need-enum-told (
   record-reads.Asked,
   record-reads.Learnt,
@@ -603,7 +562,6 @@ instr-enum-told : (t : ℕ) → instr-lts.Need-enum-told (
 ) (instr-at t) instr.Post
 instr-enum-told t c = search needs
 
--- src/code.rt:114:29
 instr-enum-known-r-5 : (t : ℕ) → instr-lts.Need-enum-known-r-5 (
   record-reads.Asked,
   record-reads.Learnt,
@@ -616,7 +574,6 @@ instr-enum-known-r-5 : (t : ℕ) → instr-lts.Need-enum-known-r-5 (
 ) (instr-at t) instr.Post
 instr-enum-known-r-5 t c = search needs
 
--- src/code.rt:114:52
 instr-loop-at-requires : (t : ℕ) → instr-lts.Need-loop-at-requires (
   record-reads.Asked,
   record-reads.Learnt,
@@ -629,7 +586,6 @@ instr-loop-at-requires : (t : ℕ) → instr-lts.Need-loop-at-requires (
 ) (instr-at t) instr.Post
 instr-loop-at-requires t c κs = search needs
 
--- src/code.rt:115:32
 instr-enum-known-r-6 : (t : ℕ) → instr-lts.Need-enum-known-r-6 (
   record-reads.Asked,
   record-reads.Learnt,
@@ -642,7 +598,6 @@ instr-enum-known-r-6 : (t : ℕ) → instr-lts.Need-enum-known-r-6 (
 ) (instr-at t) instr.Post
 instr-enum-known-r-6 t c = search needs
 
--- src/code.rt:116:31
 instr-enum-told-2 : (t : ℕ) → instr-lts.Need-enum-told-2 (
   record-reads.Asked,
   record-reads.Learnt,
@@ -655,7 +610,6 @@ instr-enum-told-2 : (t : ℕ) → instr-lts.Need-enum-told-2 (
 ) (instr-at t) instr.Post
 instr-enum-told-2 t c = search needs
 
--- src/code.rt:102:1
 instr-returns : (t : ℕ) → instr-lts.Need-returns (
   record-reads.Asked,
   record-reads.Learnt,
@@ -670,7 +624,6 @@ instr-returns t c =
     let e = sym (c .before .before .before .«record» .ensures) ∙ c .before .d .given .1 in
     simp (instr-is, e)
 
--- src/code.rt:102:1
 instr-returns-2 : (t : ℕ) → instr-lts.Need-returns-2 (
   record-reads.Asked,
   record-reads.Learnt,
@@ -686,7 +639,6 @@ instr-returns-2 t c =
     let g = c .before .r .given .1 in
     simp (instr-is, e, g)
 
--- src/code.rt:102:1
 instr-returns-3 : (t : ℕ) → instr-lts.Need-returns-3 (
   record-reads.Asked,
   record-reads.Learnt,
@@ -702,7 +654,6 @@ instr-returns-3 t c =
     let g = c .before .before .r2 .given .1 in
     simp (instr-is, e, g) (c .call-at .ensures)
 
--- src/code.rt:102:1
 instr-returns-4 : (t : ℕ) → instr-lts.Need-returns-4 (
   record-reads.Asked,
   record-reads.Learnt,
@@ -718,7 +669,6 @@ instr-returns-4 t c =
     let g = c .before .before .r3 .given .1 in
     simp (instr-is, e, g) (c .branch-at .ensures)
 
--- src/code.rt:102:1
 instr-returns-5 : (t : ℕ) → instr-lts.Need-returns-5 (
   record-reads.Asked,
   record-reads.Learnt,
@@ -734,7 +684,6 @@ instr-returns-5 t c =
     let g = c .before .r4 .given .1 in
     simp (instr-is, e, g)
 
--- src/code.rt:102:1
 instr-returns-6 : (t : ℕ) → instr-lts.Need-returns-6 (
   record-reads.Asked,
   record-reads.Learnt,
@@ -750,7 +699,6 @@ instr-returns-6 t c =
     let g = c .enum-told .given .1 in
     simp (instr-is, e, g)
 
--- src/code.rt:102:1
 instr-returns-7 : (t : ℕ) → instr-lts.Need-returns-7 (
   record-reads.Asked,
   record-reads.Learnt,
@@ -766,7 +714,6 @@ instr-returns-7 t c =
     let g = c .before .before .r5 .given .1 in
     simp (instr-is, e, g) (c .loop-at .ensures)
 
--- src/code.rt:102:1
 instr-returns-8 : (t : ℕ) → instr-lts.Need-returns-8 (
   record-reads.Asked,
   record-reads.Learnt,
@@ -782,7 +729,6 @@ instr-returns-8 t c =
     let g = c .before .r6 .given .1 in
     simp (instr-is, e, g)
 
--- src/code.rt:102:1
 instr-returns-9 : (t : ℕ) → instr-lts.Need-returns-9 (
   record-reads.Asked,
   record-reads.Learnt,
@@ -798,7 +744,6 @@ instr-returns-9 t c =
     let g = c .enum-told2 .given .1 in
     simp (instr-is, e, g)
 
--- src/code.rt:87:9
 loop-at-returns : (t : ℕ) → loop-at-lts.Need-returns (
   block-below t,
   block.Post,
@@ -811,7 +756,6 @@ unfolding whileWith
 loop-at-returns t c =
     simp (c .if1 .taken)
 
--- src/code.rt:89:43
 loop-at-sub-block : (t : ℕ) → loop-at-lts.Need-sub-block (
   block-below t,
   block.Post,
@@ -822,7 +766,6 @@ loop-at-sub-block : (t : ℕ) → loop-at-lts.Need-sub-block (
 ) (loop-at-at t) loop-at.Post
 loop-at-sub-block t c = search needs
 
--- src/code.rt:89:9
 loop-at-block-requires : (t : ℕ) → loop-at-lts.Need-block-requires (
   block-below t,
   block.Post,
@@ -833,7 +776,6 @@ loop-at-block-requires : (t : ℕ) → loop-at-lts.Need-block-requires (
 ) (loop-at-at t) loop-at.Post
 loop-at-block-requires t c κs = search needs
 
--- src/code.rt:91:22
 loop-at-enum-known-body : (t : ℕ) → loop-at-lts.Need-enum-known-body (
   block-below t,
   block.Post,
@@ -844,7 +786,6 @@ loop-at-enum-known-body : (t : ℕ) → loop-at-lts.Need-enum-known-body (
 ) (loop-at-at t) loop-at.Post
 loop-at-enum-known-body t c = search needs
 
--- src/code.rt:92:23
 loop-at-enum-known-body-2 : (t : ℕ) → loop-at-lts.Need-enum-known-body-2 (
   block-below t,
   block.Post,
@@ -855,7 +796,6 @@ loop-at-enum-known-body-2 : (t : ℕ) → loop-at-lts.Need-enum-known-body-2 (
 ) (loop-at-at t) loop-at.Post
 loop-at-enum-known-body-2 t c = search needs
 
--- src/code.rt:93:22
 loop-at-enum-known-body-3 : (t : ℕ) → loop-at-lts.Need-enum-known-body-3 (
   block-below t,
   block.Post,
@@ -866,7 +806,6 @@ loop-at-enum-known-body-3 : (t : ℕ) → loop-at-lts.Need-enum-known-body-3 (
 ) (loop-at-at t) loop-at.Post
 loop-at-enum-known-body-3 t c = search needs
 
--- src/code.rt:95:17
 loop-at-returns-2 : (t : ℕ) → loop-at-lts.Need-returns-2 (
   block-below t,
   block.Post,
@@ -881,7 +820,6 @@ loop-at-returns-2 t c =
     let b = sym (c .before .before .before .before .block .ensures) ∙ c .before .before .body3 .given .1 in
     while-missed (a .depth) (a .cur) (a .z) (a .t .now) (a .at) (a .next) (a .to) h b (c .if2 .taken)
 
--- src/code.rt:97:40
 loop-at-add-place-at : (t : ℕ) → loop-at-lts.Need-add-place-at (
   block-below t,
   block.Post,
@@ -895,7 +833,6 @@ loop-at-add-place-at t c =
     let w = shut-endwhile (a .depth - 1) (a .cur) (a .z) (a .t .now) (a .next) (sym (c .before .before .before .before .block .ensures) ∙ c .before .before .body3 .given .1) in
     search needs
 
--- src/code.rt:97:20
 loop-at-place-at-requires : (t : ℕ) → loop-at-lts.Need-place-at-requires (
   block-below t,
   block.Post,
@@ -906,7 +843,6 @@ loop-at-place-at-requires : (t : ℕ) → loop-at-lts.Need-place-at-requires (
 ) (loop-at-at t) loop-at.Post
 loop-at-place-at-requires t c κs = search needs
 
--- src/code.rt:97:55
 loop-at-add-met-at : (t : ℕ) → loop-at-lts.Need-add-met-at (
   block-below t,
   block.Post,
@@ -920,7 +856,6 @@ loop-at-add-met-at t c =
     let w = shut-endwhile (a .depth - 1) (a .cur) (a .z) (a .t .now) (a .next) (sym (c .before .before .before .before .before .block .ensures) ∙ c .before .before .before .body3 .given .1) in
     search needs
 
--- src/code.rt:97:13
 loop-at-met-at-requires : (t : ℕ) → loop-at-lts.Need-met-at-requires (
   block-below t,
   block.Post,
@@ -931,7 +866,6 @@ loop-at-met-at-requires : (t : ℕ) → loop-at-lts.Need-met-at-requires (
 ) (loop-at-at t) loop-at.Post
 loop-at-met-at-requires t c κs = search needs
 
--- src/code.rt:83:1
 loop-at-returns-3 : (t : ℕ) → loop-at-lts.Need-returns-3 (
   block-below t,
   block.Post,
@@ -946,7 +880,6 @@ loop-at-returns-3 t c =
     let b = sym (c .before .before .before .block .ensures) ∙ c .before .body .given .1 in
     while-is (a .depth) (a .cur) (a .z) (a .t .now) (a .at) (a .next) (a .to) h b
 
--- src/code.rt:83:1
 loop-at-returns-4 : (t : ℕ) → loop-at-lts.Need-returns-4 (
   block-below t,
   block.Post,
@@ -961,7 +894,6 @@ loop-at-returns-4 t c =
     let b = sym (c .before .before .before .block .ensures) ∙ c .before .body2 .given .1 in
     while-is (a .depth) (a .cur) (a .z) (a .t .now) (a .at) (a .next) (a .to) h b
 
--- src/code.rt:83:1
 loop-at-returns-5 : (t : ℕ) → loop-at-lts.Need-returns-5 (
   block-below t,
   block.Post,

@@ -1,4 +1,4 @@
-use mathlib.Core.Path.{_≡_, sym, _∙_}
+use mathlib.Core.Path.{sym, _∙_}
 use borrow.Author.Tests.{eq-eqb, ne-eqb}
 use borrow.Author.Needs.{needs}
 use Rattle.reading.specs.Reading.{functionsAt}
@@ -24,7 +24,6 @@ abbrev functions-below : ℕ → In 1 functions-kinds.ps
 functions-below t =
     and 1 functions-kinds.ps (falls 1 functions-kinds.ps _<_ μ-functions t) functions.Pre
 
--- src/code.rt:179:13
 functions-returns : (t : ℕ) → functions-lts.Need-returns (
   less-reads.Asked,
   less-reads.Learnt,
@@ -38,7 +37,6 @@ functions-returns t c =
     let h = c .if2 .taken in
     simp (c .before .if1 .taken, eq-eqb)
 
--- src/code.rt:181:9
 functions-returns-2 : (t : ℕ) → functions-lts.Need-returns-2 (
   less-reads.Asked,
   less-reads.Learnt,
@@ -52,7 +50,6 @@ functions-returns-2 t c =
     let h = c .if2 .left in
     simp (c .before .if1 .taken, ne-eqb)
 
--- src/code.rt:183:9
 functions-less-requires : (t : ℕ) → functions-lts.Need-less-requires (
   less-reads.Asked,
   less-reads.Learnt,
@@ -63,7 +60,6 @@ functions-less-requires : (t : ℕ) → functions-lts.Need-less-requires (
 ) (functions-at t) functions.Post
 functions-less-requires t c κs = search needs
 
--- src/code.rt:184:9
 functions-function-requires : (t : ℕ) → functions-lts.Need-function-requires (
   less-reads.Asked,
   less-reads.Learnt,
@@ -74,7 +70,6 @@ functions-function-requires : (t : ℕ) → functions-lts.Need-function-requires
 ) (functions-at t) functions.Post
 functions-function-requires t c κs = search needs
 
--- src/code.rt:186:16
 functions-enum-known-one : (t : ℕ) → functions-lts.Need-enum-known-one (
   less-reads.Asked,
   less-reads.Learnt,
@@ -85,7 +80,6 @@ functions-enum-known-one : (t : ℕ) → functions-lts.Need-enum-known-one (
 ) (functions-at t) functions.Post
 functions-enum-known-one t c = search needs
 
--- src/code.rt:186:38
 functions-sub-functions : (t : ℕ) → functions-lts.Need-sub-functions (
   less-reads.Asked,
   less-reads.Learnt,
@@ -96,7 +90,6 @@ functions-sub-functions : (t : ℕ) → functions-lts.Need-sub-functions (
 ) (functions-at t) functions.Post
 functions-sub-functions t c = search needs
 
--- src/code.rt:186:22
 functions-functions-requires : (t : ℕ) → functions-lts.Need-functions-requires (
   less-reads.Asked,
   less-reads.Learnt,
@@ -107,7 +100,6 @@ functions-functions-requires : (t : ℕ) → functions-lts.Need-functions-requir
 ) (functions-at t) functions.Post
 functions-functions-requires t c κs = search needs
 
--- src/code.rt:187:19
 functions-enum-known-one-2 : (t : ℕ) → functions-lts.Need-enum-known-one-2 (
   less-reads.Asked,
   less-reads.Learnt,
@@ -118,7 +110,6 @@ functions-enum-known-one-2 : (t : ℕ) → functions-lts.Need-enum-known-one-2 (
 ) (functions-at t) functions.Post
 functions-enum-known-one-2 t c = search needs
 
--- src/code.rt:174:1
 functions-returns-3 : (t : ℕ) → functions-lts.Need-returns-3 (
   less-reads.Asked,
   less-reads.Learnt,
@@ -132,7 +123,6 @@ functions-returns-3 t c =
     let e = simp (c .before .before .before .before .before .less .ensures) at (sym (c .before .before .before .before .function .ensures) ∙ c .before .before .one .given .1) in
     simp (functions-is, e) (c .functions .ensures)
 
--- src/code.rt:174:1
 functions-returns-4 : (t : ℕ) → functions-lts.Need-returns-4 (
   less-reads.Asked,
   less-reads.Learnt,

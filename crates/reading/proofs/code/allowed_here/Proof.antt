@@ -5,31 +5,26 @@ use Rattle.reading.proofs.code.allowed_here.Tie as tie
 use Rattle.reading.proofs.code.allowed_here.Reads as reads
 use Rattle.reading.proofs.code.allowed_here.Lts as lts
 
--- src/code.rt:13:1
 returns : tie.Need-returns
 unfolding allowed
 returns c =
     simp (c .match .keys1)
 
--- src/code.rt:13:1
 returns-2 : tie.Need-returns-2
 unfolding allowed
 returns-2 c =
     simp (c .match .keys2)
 
--- src/code.rt:13:1
 returns-3 : tie.Need-returns-3
 unfolding allowed
 returns-3 c =
     simp (c .match .keys3)
 
--- src/code.rt:13:1
 returns-4 : tie.Need-returns-4
 unfolding allowed
 returns-4 c =
     simp (c .match .keys4)
 
--- src/code.rt:13:1
 returns-5 : tie.Need-returns-5
 unfolding allowed
 returns-5 c =

@@ -5,14 +5,12 @@ use Rattle.reading.proofs.code.call_at.Tie as tie
 use Rattle.reading.proofs.code.call_at.Reads as reads
 use Rattle.reading.proofs.code.call_at.Lts as lts
 
--- src/code.rt:42:9
 returns : tie.Need-returns
 unfolding callAt
 returns c =
     let h1 = c .if1 .taken in
     simp lt-ltb
 
--- src/code.rt:38:1
 returns-2 : tie.Need-returns-2
 unfolding callAt
 returns-2 c =

@@ -1,4 +1,4 @@
-use mathlib.Core.Path.{_≡_, sym, _∙_}
+use mathlib.Core.Path.{sym, _∙_}
 use borrow.Author.Tests.{eq-eqb, ne-eqb}
 use Rattle.reading.specs.Reading.{functionAt}
 use Rattle.reading.proofs.Laws.{shut-one}
@@ -11,23 +11,18 @@ use Rattle.layout.proofs.start_of.Reads as start-of-reads
 use Rattle.reading.proofs.code.block.Reads as block-reads
 use Rattle.reading.proofs.code.record.Reads as record-reads
 
--- src/code.rt:145:9
 record-requires : tie.Need-record-requires
 record-requires c κs = search needs
 
--- src/code.rt:147:22
 enum-known-d : tie.Need-enum-known-d
 enum-known-d c = search needs
 
--- src/code.rt:148:22
 enum-known-d-2 : tie.Need-enum-known-d-2
 enum-known-d-2 c = search needs
 
--- src/code.rt:149:17
 start-of-requires : tie.Need-start-of-requires
 start-of-requires c κs = search needs
 
--- src/code.rt:151:17
 returns : tie.Need-returns
 unfolding functionAt
 returns c =
@@ -35,37 +30,30 @@ returns c =
     let k = simp (c .before .start-of .ensures .0) at (c .if1 .taken) in
     simp (e, ne-eqb)
 
--- src/code.rt:153:17
 block-requires : tie.Need-block-requires
 block-requires c κs = search needs
 
--- src/code.rt:155:30
 enum-known-b : tie.Need-enum-known-b
 enum-known-b c = search needs
 
--- src/code.rt:156:31
 enum-known-b-2 : tie.Need-enum-known-b-2
 enum-known-b-2 c = search needs
 
--- src/code.rt:157:30
 enum-known-b-3 : tie.Need-enum-known-b-3
 enum-known-b-3 c = search needs
 
--- src/code.rt:157:43
 add-t19 : tie.Need-add-t19
 add-t19 c =
     let a = c .before .before .before .before .before .before .before .before .before .before .before .args in
     let w = shut-one 16 (a .i) (a .z) (a .t .now) 37 (a .at) (sym (c .before .before .before .block .ensures) ∙ c .before .b3 .given .1) in
     search needs
 
--- src/code.rt:142:1
 returns-2 : tie.Need-returns-2
 unfolding functionAt
 returns-2 c =
     let e = sym (c .before .before .before .«record» .ensures) ∙ c .before .d .given .1 in
     simp e
 
--- src/code.rt:142:1
 returns-3 : tie.Need-returns-3
 unfolding functionAt
 returns-3 c =
@@ -74,7 +62,6 @@ returns-3 c =
     let b = sym (c .before .before .before .block .ensures) ∙ c .before .b .given .1 in
     simp (e, b, eq-eqb)
 
--- src/code.rt:142:1
 returns-4 : tie.Need-returns-4
 unfolding functionAt
 returns-4 c =
@@ -83,7 +70,6 @@ returns-4 c =
     let b = sym (c .before .before .before .block .ensures) ∙ c .before .b2 .given .1 in
     simp (e, b, eq-eqb)
 
--- src/code.rt:142:1
 returns-5 : tie.Need-returns-5
 unfolding functionAt
 returns-5 c =

@@ -4,13 +4,11 @@ use Rattle.reading.proofs.code.met_at.Tie as tie
 use Rattle.reading.proofs.code.met_at.Reads as reads
 use Rattle.reading.proofs.code.met_at.Lts as lts
 
--- src/code.rt:52:9
 returns : tie.Need-returns
 returns c =
     let h1 = c .if1 .taken in
     simp eq-eqb
 
--- src/code.rt:48:1
 returns-2 : tie.Need-returns-2
 returns-2 c =
     let h1 = c .if1 .left in

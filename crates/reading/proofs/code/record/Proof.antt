@@ -1,4 +1,4 @@
-use mathlib.Core.Path.{_≡_, sym, _∙_}
+use mathlib.Core.Path.{sym, _∙_}
 use borrow.Author.Tests.{le-leb, lt-leb}
 use Rattle.reading.specs.Reading.{recordAt}
 use borrow.Author.Needs.{needs}
@@ -9,26 +9,21 @@ use Rattle.reading.proofs.code.record.Lts as lts
 use Rattle.records.proofs.decode.Reads as decode-reads
 use Rattle.reading.proofs.code.allowed_here.Reads as allowed-here-reads
 
--- src/code.rt:29:9
 returns : tie.Need-returns
 unfolding recordAt
 returns c =
     let h = c .if1 .taken in
     simp le-leb
 
--- src/code.rt:31:13
 shared-slice-read-k : tie.Need-shared-slice-read-k
 shared-slice-read-k c = search needs
 
--- src/code.rt:32:8
 allowed-here-requires : tie.Need-allowed-here-requires
 allowed-here-requires c κs = search needs
 
--- src/code.rt:33:9
 decode-requires : tie.Need-decode-requires
 decode-requires c κs = search needs
 
--- src/code.rt:33:9
 returns-2 : tie.Need-returns-2
 unfolding recordAt
 returns-2 c =
@@ -36,7 +31,6 @@ returns-2 c =
     let e = sym (c .before .before .allowed-here .ensures) ∙ c .before .if2 .taken in
     simp (e, lt-leb) (c .decode .ensures)
 
--- src/code.rt:25:1
 returns-3 : tie.Need-returns-3
 unfolding recordAt
 returns-3 c =

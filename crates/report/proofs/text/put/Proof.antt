@@ -6,19 +6,15 @@ use Rattle.report.proofs.text.put.Tie as tie
 use Rattle.report.proofs.text.put.Reads as reads
 use Rattle.report.proofs.text.put.Lts as lts
 
--- src/text.rt:13:9
 slice-write-s : tie.Need-slice-write-s
 slice-write-s c = search needs
 
--- src/text.rt:9:1
 same-length : tie.Need-same-length
 same-length c = search needs
 
--- src/text.rt:9:1
 returns : tie.Need-returns
 returns c = search needs
 
--- src/text.rt:9:1
 returns-2 : tie.Need-returns-2
 returns-2 c = sym (set-out _ _ _ (c .if1 .left))
 

@@ -1,8 +1,8 @@
-use Prim.Native.Nat.{ℕ, _≤_, _-_, _+_}
+use Prim.Native.Nat.{_≤_, _-_}
 use native.Mathlib.Omega.{arith}
-use mathlib.Core.Path.{_≡_, refl, sym, ap, _∙_}
+use mathlib.Core.Path.{_≡_, refl, _∙_}
 use borrow.Author.Needs.{needs}
-use lib.ListN.{length, take, length-set}
+use lib.ListN.{length, take}
 use lib.Seq.{sets, take-all}
 use Rattle.report.proofs.Written.{one-more}
 use Rattle.report.proofs.text.put_bytes.Statement.{statement}
@@ -17,31 +17,24 @@ Inv-loop s₀ at text i₀ s i = (i ≤ length text) × (s ≡ sets s₀ at (tak
 abbrev μ-loop : tie.MeasureT-loop
 μ-loop s₀ at text i₀ s i = length text - i
 
--- src/text.rt:23:5
 loop-holds : tie.Need-loop-holds Inv-loop μ-loop
 loop-holds c = (omega arith, refl, refl)
 
--- src/text.rt:24:16
 add-put : tie.Need-add-put Inv-loop μ-loop
 add-put c = search needs
 
--- src/text.rt:24:24
 shared-slice-read-put : tie.Need-shared-slice-read-put Inv-loop μ-loop
 shared-slice-read-put c = search needs
 
--- src/text.rt:24:9
 put-requires : tie.Need-put-requires Inv-loop μ-loop
 put-requires c κs = search needs
 
--- src/text.rt:25:9
 add-i : tie.Need-add-i Inv-loop μ-loop
 add-i c = search needs
 
--- src/text.rt:23:5
 loop-less : tie.Need-loop-less Inv-loop μ-loop
 loop-less c = search needs
 
--- src/text.rt:23:5
 loop-again : tie.Need-loop-again Inv-loop μ-loop
 loop-again c =
     let L = c .before .before .before .before .before .before .loop in
@@ -49,15 +42,12 @@ loop-again c =
     let l = c .before .before .before .before .before .loop-test .taken in
     (omega arith, c .before .before .put .ensures ∙ rw (L .inv .1) (one-more _ (A .text .now) (A .at) (L .i) l), omega (arith, c .before .before .put .kept .0, L .inv .2))
 
--- src/text.rt:27:5
 add-result : tie.Need-add-result Inv-loop μ-loop
 add-result c = search needs
 
--- src/text.rt:18:1
 same-length : tie.Need-same-length Inv-loop μ-loop
 same-length c = search needs
 
--- src/text.rt:18:1
 returns : tie.Need-returns Inv-loop μ-loop
 returns c =
     let L = c .before .loop in

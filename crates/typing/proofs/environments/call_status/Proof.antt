@@ -6,34 +6,27 @@ use Rattle.typing.proofs.environments.call_status.Tie as tie
 use Rattle.typing.proofs.environments.call_status.Reads as reads
 use Rattle.typing.proofs.environments.call_status.Lts as lts
 
--- src/environments.rt:101:9
 returns : tie.Need-returns
 unfolding callStatus
 returns c = simp (not-true (c .before .args .mark) (c .if1 .taken))
 
--- src/environments.rt:104:28
 enum-told : tie.Need-enum-told
 enum-told c = search needs
 
--- src/environments.rt:105:28
 enum-told-2 : tie.Need-enum-told-2
 enum-told-2 c = search needs
 
--- src/environments.rt:106:26
 enum-known-a : tie.Need-enum-known-a
 enum-known-a c = search needs
 
--- src/environments.rt:97:1
 returns-2 : tie.Need-returns-2
 unfolding callStatus
 returns-2 c = simp (not-false (c .before .before .before .args .mark) (c .before .before .if1 .left), c .enum-told .given .1)
 
--- src/environments.rt:97:1
 returns-3 : tie.Need-returns-3
 unfolding callStatus
 returns-3 c = simp (not-false (c .before .before .before .args .mark) (c .before .before .if1 .left), c .enum-told2 .given .1)
 
--- src/environments.rt:97:1
 returns-4 : tie.Need-returns-4
 unfolding callStatus
 returns-4 c = simp (not-false (c .before .before .before .before .args .mark) (c .before .before .before .if1 .left), c .before .a .given .1)

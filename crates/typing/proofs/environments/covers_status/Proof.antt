@@ -5,35 +5,27 @@ use Rattle.typing.proofs.environments.covers_status.Reads as reads
 use Rattle.typing.proofs.environments.covers_status.Lts as lts
 use Rattle.typing.proofs.environments.same_status.Reads as same-status-reads
 
--- src/environments.rt:56:28
 enum-told : tie.Need-enum-told
 enum-told c = search needs
 
--- src/environments.rt:57:28
 enum-told-2 : tie.Need-enum-told-2
 enum-told-2 c = search needs
 
--- src/environments.rt:57:28
 same-status-requires : tie.Need-same-status-requires
 same-status-requires c κs = search needs
 
--- src/environments.rt:58:26
 enum-known-b : tie.Need-enum-known-b
 enum-known-b c = search needs
 
--- src/environments.rt:58:35
 same-status-requires-2 : tie.Need-same-status-requires-2
 same-status-requires-2 c κs = search needs
 
--- src/environments.rt:52:1
 returns : tie.Need-returns
 returns c = search needs
 
--- src/environments.rt:52:1
 returns-2 : tie.Need-returns-2
 returns-2 c = simp (c .same-status .ensures, c .before .enum-told2 .given .1)
 
--- src/environments.rt:52:1
 returns-3 : tie.Need-returns-3
 returns-3 c = simp (c .same-status2 .ensures, c .before .before .b .given .1)
 

@@ -5,29 +5,23 @@ use Rattle.typing.proofs.environments.guard_status.Tie as tie
 use Rattle.typing.proofs.environments.guard_status.Reads as reads
 use Rattle.typing.proofs.environments.guard_status.Lts as lts
 
--- src/environments.rt:91:28
 enum-told : tie.Need-enum-told
 enum-told c = search needs
 
--- src/environments.rt:92:28
 enum-told-2 : tie.Need-enum-told-2
 enum-told-2 c = search needs
 
--- src/environments.rt:93:26
 enum-known-a : tie.Need-enum-known-a
 enum-known-a c = search needs
 
--- src/environments.rt:87:1
 returns : tie.Need-returns
 unfolding guardStatus
 returns c = simp (c .enum-told .given .1)
 
--- src/environments.rt:87:1
 returns-2 : tie.Need-returns-2
 unfolding guardStatus
 returns-2 c = simp (c .enum-told2 .given .1)
 
--- src/environments.rt:87:1
 returns-3 : tie.Need-returns-3
 unfolding guardStatus
 returns-3 c = simp (c .before .a .given .1)

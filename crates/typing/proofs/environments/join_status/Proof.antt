@@ -7,15 +7,12 @@ use Rattle.typing.proofs.environments.join_status.Reads as reads
 use Rattle.typing.proofs.environments.join_status.Lts as lts
 use Rattle.typing.proofs.environments.same_status.Reads as same-status-reads
 
--- src/environments.rt:65:8
 same-status-requires : tie.Need-same-status-requires
 same-status-requires c κs = search needs
 
--- src/environments.rt:66:9
 returns : tie.Need-returns
 returns c = simp (join-is, sym (c .before .same-status .ensures), c .if1 .taken)
 
--- src/environments.rt:62:1
 returns-2 : tie.Need-returns-2
 returns-2 c = simp (join-is, sym (c .before .same-status .ensures), c .if1 .left)
 

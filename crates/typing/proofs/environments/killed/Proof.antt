@@ -6,36 +6,29 @@ use Rattle.typing.proofs.environments.killed.Tie as tie
 use Rattle.typing.proofs.environments.killed.Reads as reads
 use Rattle.typing.proofs.environments.killed.Lts as lts
 
--- src/environments.rt:76:28
 enum-told : tie.Need-enum-told
 enum-told c = search needs
 
--- src/environments.rt:77:28
 enum-told-2 : tie.Need-enum-told-2
 enum-told-2 c = search needs
 
--- src/environments.rt:78:26
 enum-known-a : tie.Need-enum-known-a
 enum-known-a c = search needs
 
--- src/environments.rt:80:17
 returns : tie.Need-returns
 unfolding kill
 returns c =
     let h = c .if1 .taken in
     simp (c .before .before .a .given .1, eq-eqb)
 
--- src/environments.rt:72:1
 returns-2 : tie.Need-returns-2
 unfolding kill
 returns-2 c = simp (c .enum-told .given .1)
 
--- src/environments.rt:72:1
 returns-3 : tie.Need-returns-3
 unfolding kill
 returns-3 c = simp (c .enum-told2 .given .1)
 
--- src/environments.rt:72:1
 returns-4 : tie.Need-returns-4
 unfolding kill
 returns-4 c =

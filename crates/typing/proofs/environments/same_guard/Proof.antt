@@ -5,15 +5,12 @@ use Rattle.typing.proofs.environments.same_guard.Tie as tie
 use Rattle.typing.proofs.environments.same_guard.Reads as reads
 use Rattle.typing.proofs.environments.same_guard.Lts as lts
 
--- src/environments.rt:44:9
 returns : tie.Need-returns
 returns c = guard-other _ _ _ _ (c .if1 .taken)
 
--- src/environments.rt:47:9
 returns-2 : tie.Need-returns-2
 returns-2 c = sym (guard-same _ _ _ _ (c .before .if1 .left) ∙ beq-true _ _ (c .if2 .taken))
 
--- src/environments.rt:40:1
 returns-3 : tie.Need-returns-3
 returns-3 c = sym (guard-same _ _ _ _ (c .before .if1 .left) ∙ beq-false _ _ (c .if2 .left))
 

@@ -6,99 +6,77 @@ use Rattle.typing.proofs.environments.same_status.Reads as reads
 use Rattle.typing.proofs.environments.same_status.Lts as lts
 use Rattle.typing.proofs.environments.same_guard.Reads as same-guard-reads
 
--- src/environments.rt:22:28
 enum-told : tie.Need-enum-told
 enum-told c = search needs
 
--- src/environments.rt:23:32
 enum-told-2 : tie.Need-enum-told-2
 enum-told-2 c = search needs
 
--- src/environments.rt:24:32
 enum-told-3 : tie.Need-enum-told-3
 enum-told-3 c = search needs
 
--- src/environments.rt:25:30
 enum-known-b : tie.Need-enum-known-b
 enum-known-b c = search needs
 
--- src/environments.rt:27:28
 enum-told-4 : tie.Need-enum-told-4
 enum-told-4 c = search needs
 
--- src/environments.rt:28:32
 enum-told-5 : tie.Need-enum-told-5
 enum-told-5 c = search needs
 
--- src/environments.rt:29:32
 enum-told-6 : tie.Need-enum-told-6
 enum-told-6 c = search needs
 
--- src/environments.rt:30:30
 enum-known-b-2 : tie.Need-enum-known-b-2
 enum-known-b-2 c = search needs
 
--- src/environments.rt:32:26
 enum-known-a : tie.Need-enum-known-a
 enum-known-a c = search needs
 
--- src/environments.rt:33:32
 enum-told-7 : tie.Need-enum-told-7
 enum-told-7 c = search needs
 
--- src/environments.rt:34:32
 enum-told-8 : tie.Need-enum-told-8
 enum-told-8 c = search needs
 
--- src/environments.rt:35:30
 enum-known-b-3 : tie.Need-enum-known-b-3
 enum-known-b-3 c = search needs
 
--- src/environments.rt:35:39
 same-guard-requires : tie.Need-same-guard-requires
 same-guard-requires c κs = search needs
 
--- src/environments.rt:18:1
 returns : tie.Need-returns
 unfolding sameStatus
 returns c = simp (c .enum-told2 .given .1, c .before .before .enum-told .given .1)
 
--- src/environments.rt:18:1
 returns-2 : tie.Need-returns-2
 unfolding sameStatus
 returns-2 c = simp (c .enum-told3 .given .1, c .before .before .enum-told .given .1)
 
--- src/environments.rt:18:1
 returns-3 : tie.Need-returns-3
 unfolding sameStatus
 returns-3 c = simp (c .before .b .given .1, c .before .before .before .enum-told .given .1)
 
--- src/environments.rt:18:1
 returns-4 : tie.Need-returns-4
 unfolding sameStatus
 returns-4 c = simp (c .enum-told5 .given .1, c .before .before .enum-told4 .given .1)
 
--- src/environments.rt:18:1
 returns-5 : tie.Need-returns-5
 unfolding sameStatus
 returns-5 c = simp (c .enum-told6 .given .1, c .before .before .enum-told4 .given .1)
 
--- src/environments.rt:18:1
 returns-6 : tie.Need-returns-6
 unfolding sameStatus
 returns-6 c = simp (c .before .b2 .given .1, c .before .before .before .enum-told4 .given .1)
 
--- src/environments.rt:18:1
 returns-7 : tie.Need-returns-7
 unfolding sameStatus
 returns-7 c = simp (c .enum-told7 .given .1, c .before .before .before .a .given .1)
 
--- src/environments.rt:18:1
 returns-8 : tie.Need-returns-8
 unfolding sameStatus
 returns-8 c = simp (c .enum-told8 .given .1, c .before .before .before .a .given .1)
 
--- src/environments.rt:18:1
 returns-9 : tie.Need-returns-9
 returns-9 c = simp (c .before .before .b3 .given .1, c .before .before .before .before .before .a .given .1) (c .same-guard .ensures)
 

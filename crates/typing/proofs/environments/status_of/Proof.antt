@@ -4,13 +4,11 @@ use Rattle.typing.proofs.environments.status_of.Tie as tie
 use Rattle.typing.proofs.environments.status_of.Reads as reads
 use Rattle.typing.proofs.environments.status_of.Lts as lts
 
--- src/environments.rt:114:9
 returns : tie.Need-returns
 returns c =
     let h = c .if1 .taken in
     simp eq-eqb
 
--- src/environments.rt:110:1
 returns-2 : tie.Need-returns-2
 returns-2 c =
     let h = c .if1 .left in

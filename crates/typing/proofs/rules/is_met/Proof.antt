@@ -6,99 +6,75 @@ use Rattle.typing.proofs.rules.is_met.Lts as lts
 use Rattle.typing.proofs.rules.has_status.Reads as has-status-reads
 use Rattle.typing.proofs.rules.is_public.Reads as is-public-reads
 
--- src/rules.rt:43:25
 enum-known-s : tie.Need-enum-known-s
 enum-known-s c = search needs
 
--- src/rules.rt:45:13
 enum-known-s-2 : tie.Need-enum-known-s-2
 enum-known-s-2 c = search needs
 
--- src/rules.rt:51:13
 enum-known-s-3 : tie.Need-enum-known-s-3
 enum-known-s-3 c = search needs
 
--- src/rules.rt:56:24
 enum-known-s-4 : tie.Need-enum-known-s-4
 enum-known-s-4 c = search needs
 
--- src/rules.rt:56:48
 is-public-requires : tie.Need-is-public-requires
 is-public-requires c κs = search needs
 
--- src/rules.rt:58:13
 enum-known-s-5 : tie.Need-enum-known-s-5
 enum-known-s-5 c = search needs
 
--- src/rules.rt:61:14
 is-public-requires-2 : tie.Need-is-public-requires-2
 is-public-requires-2 c κs = search needs
 
--- src/rules.rt:62:25
 enum-told : tie.Need-enum-told
 enum-told c = search needs
 
--- src/rules.rt:63:26
 enum-known-s-6 : tie.Need-enum-known-s-6
 enum-known-s-6 c = search needs
 
--- src/rules.rt:63:47
 has-status-requires : tie.Need-has-status-requires
 has-status-requires c κs = search needs
 
--- src/rules.rt:64:27
 enum-known-s-7 : tie.Need-enum-known-s-7
 enum-known-s-7 c = search needs
 
--- src/rules.rt:64:45
 has-status-requires-2 : tie.Need-has-status-requires-2
 has-status-requires-2 c κs = search needs
 
--- src/rules.rt:68:29
 enum-known-s-8 : tie.Need-enum-known-s-8
 enum-known-s-8 c = search needs
 
--- src/rules.rt:70:13
 enum-known-s-9 : tie.Need-enum-known-s-9
 enum-known-s-9 c = search needs
 
--- src/rules.rt:39:1
 returns : tie.Need-returns
 returns c = search needs
 
--- src/rules.rt:39:1
 returns-2 : tie.Need-returns-2
 returns-2 c = simp (c .before .s2 .given .1)
 
--- src/rules.rt:39:1
 returns-3 : tie.Need-returns-3
 returns-3 c = simp (c .before .s3 .given .1)
 
--- src/rules.rt:39:1
 returns-4 : tie.Need-returns-4
 returns-4 c = simp (c .is-public .ensures, c .before .before .s4 .given .1)
 
--- src/rules.rt:39:1
 returns-5 : tie.Need-returns-5
 returns-5 c = simp (c .is-public2 .ensures, c .before .before .s5 .given .1)
 
--- src/rules.rt:39:1
 returns-6 : tie.Need-returns-6
 returns-6 c = search needs
 
--- src/rules.rt:39:1
 returns-7 : tie.Need-returns-7
 returns-7 c = simp (c .has-status .ensures, c .before .before .s6 .given .1)
 
--- src/rules.rt:39:1
 returns-8 : tie.Need-returns-8
 returns-8 c = simp (c .has-status2 .ensures, c .before .before .s7 .given .1)
 
--- src/rules.rt:39:1
 returns-9 : tie.Need-returns-9
 returns-9 c = simp (c .before .s8 .given .1)
 
--- src/rules.rt:39:1
 returns-10 : tie.Need-returns-10
 returns-10 c = simp (c .before .s9 .given .1)
 

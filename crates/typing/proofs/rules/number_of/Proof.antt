@@ -4,83 +4,63 @@ use Rattle.typing.proofs.rules.number_of.Tie as tie
 use Rattle.typing.proofs.rules.number_of.Reads as reads
 use Rattle.typing.proofs.rules.number_of.Lts as lts
 
--- src/rules.rt:73:25
 enum-known-s : tie.Need-enum-known-s
 enum-known-s c = search needs
 
--- src/rules.rt:75:13
 enum-known-s-2 : tie.Need-enum-known-s-2
 enum-known-s-2 c = search needs
 
--- src/rules.rt:81:13
 enum-known-s-3 : tie.Need-enum-known-s-3
 enum-known-s-3 c = search needs
 
--- src/rules.rt:86:24
 enum-known-s-4 : tie.Need-enum-known-s-4
 enum-known-s-4 c = search needs
 
--- src/rules.rt:88:13
 enum-known-s-5 : tie.Need-enum-known-s-5
 enum-known-s-5 c = search needs
 
--- src/rules.rt:92:25
 enum-told : tie.Need-enum-told
 enum-told c = search needs
 
--- src/rules.rt:93:26
 enum-known-s-6 : tie.Need-enum-known-s-6
 enum-known-s-6 c = search needs
 
--- src/rules.rt:94:27
 enum-known-s-7 : tie.Need-enum-known-s-7
 enum-known-s-7 c = search needs
 
--- src/rules.rt:101:29
 enum-known-s-8 : tie.Need-enum-known-s-8
 enum-known-s-8 c = search needs
 
--- src/rules.rt:103:13
 enum-known-s-9 : tie.Need-enum-known-s-9
 enum-known-s-9 c = search needs
 
--- src/rules.rt:69:1
 returns : tie.Need-returns
 returns c = search needs
 
--- src/rules.rt:69:1
 returns-2 : tie.Need-returns-2
 returns-2 c = simp (c .before .s2 .given .1)
 
--- src/rules.rt:69:1
 returns-3 : tie.Need-returns-3
 returns-3 c = simp (c .before .s3 .given .1)
 
--- src/rules.rt:69:1
 returns-4 : tie.Need-returns-4
 returns-4 c = search needs
 
--- src/rules.rt:69:1
 returns-5 : tie.Need-returns-5
 returns-5 c = search needs
 
--- src/rules.rt:69:1
 returns-6 : tie.Need-returns-6
 returns-6 c = search needs
 
--- src/rules.rt:69:1
 returns-7 : tie.Need-returns-7
 returns-7 c = search needs
 
--- src/rules.rt:69:1
 returns-8 : tie.Need-returns-8
 returns-8 c = search needs
 
--- src/rules.rt:69:1
 returns-9 : tie.Need-returns-9
 returns-9 c = simp (c .before .s8 .given .1)
 
--- src/rules.rt:69:1
 returns-10 : tie.Need-returns-10
 returns-10 c = simp (c .before .s9 .given .1)
 

@@ -10,25 +10,20 @@ use Rattle.typing.proofs.rules.after_simple.Reads as after-simple-reads
 use Rattle.typing.proofs.rules.is_met.Reads as is-met-reads
 use Rattle.typing.proofs.rules.number_of.Reads as number-of-reads
 
--- src/walks.rt:35:8
 is-met-requires : tie.Need-is-met-requires
 is-met-requires c κs = search needs
 
--- src/walks.rt:36:13
 after-simple-requires : tie.Need-after-simple-requires
 after-simple-requires c κs = search needs
 
--- src/walks.rt:37:9
 returns : tie.Need-returns
 returns c =
     let a = c .before .before .before .args in
     simple-on (a .z) (a .s) (a .at) (a .next) (viewEnv (a .e)) (sym (c .before .before .is-met .ensures) ∙ c .before .if1 .taken) (c .after-simple .ensures)
 
--- src/walks.rt:43:27
 number-of-requires : tie.Need-number-of-requires
 number-of-requires c κs = search needs
 
--- src/walks.rt:31:1
 returns-2 : tie.Need-returns-2
 returns-2 c =
     let a = c .before .before .before .args in
