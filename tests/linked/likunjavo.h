@@ -13,7 +13,7 @@
  *   - a pointer to words is aligned as C aligns a uint32_t;
  *   - what a function writes (registers, memory, observations, answer) overlaps nothing else that it is lent.
  * Lengths count elements, not bytes: four registers are 4. No function keeps a pointer, or anything else, between two calls,
- * so several threads may call them at once. A call needs at most 28 KiB of stack (docs/PERFORMANCE.md).
+ * so several threads may call them at once. A call needs at most 16 KiB of stack (docs/PERFORMANCE.md).
  */
 #ifndef LIKUNJAVO_H
 #define LIKUNJAVO_H

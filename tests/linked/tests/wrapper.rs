@@ -134,3 +134,13 @@ fn the_stack_is_measured() {
     let (straight, nested) = (check(tables::straight(1_024)), check(tables::nested(1_024)));
     assert!(0 < straight && 2 * straight < nested, "{} and {}", straight, nested);
 }
+
+/// Document 02, order 2: stack is short where the check runs. The table that goes deepest stays far below what likunjavo.h says of a call.
+#[test]
+fn the_stack_stays_short() {
+    let table = tables::nested(32 * 1_024);
+    let depth = stack::depth_of(|| {
+        assert!(matches!(linked::check(&table), Verdict::Accepted { functions: 32, .. }));
+    });
+    assert!(0 < depth && depth < 12 * 1_024, "{} bytes", depth);
+}
