@@ -4,11 +4,11 @@ use native.Mathlib.Omega.{arith}
 use native.Mathlib.Nat.{zero-add}
 use mathlib.Core.Path.{_≡_, refl, sym, ap, subst, _∙_}
 use mathlib.Core.List.{List, [], _∷_}
-use mathlib.Core.Bool.{Bool, true, false, true≢false}
+use mathlib.Core.Bool.{true}
 use lib.ListN.{length, getD}
 use lib.Dec.{ltb, leb, eqb}
 use borrow.Author.Tests.{ltb-true, ltb-false, leb-false, eqb-true}
-use Rattle.model.specs.Tests.{all, pick-ind}
+use Rattle.model.specs.Tests.{all, Trues, trues, pick-ind}
 use Rattle.model.specs.Records.{lengthOf, Fits, Reaches, Keeps}
 use Rattle.model.specs.declared.Sizes.{Sizes}
 use Rattle.model.specs.declared.Simple.{Simple}
@@ -18,16 +18,6 @@ use Rattle.model.specs.declared.Record.the-variants.{Do, Call, If, Else, Endif,
 use Rattle.format.specs.declared.Decoded.{Decoded}
 use Rattle.format.specs.declared.Decoded.the-variants.{Got, Bad}
 use Rattle.format.specs.Format.{byte, word16, wordsAt, wordsFrom, Row, rowsOf, byRow, rowAt, decodeAt}
-
--- every test of a list holds
-abbrev pub Trues : List Bool → Type 0
-Trues [] = Unit {0}
-Trues (b ∷ bs) = (b ≡ true) × Trues bs
-
-pub trues : (bs : List Bool) → all bs ≡ true → Trues bs
-trues [] h = tt
-trues (true ∷ bs) h = (refl, trues bs h)
-trues (false ∷ bs) h = absurd (true≢false (sym h))
 
 -- the kind byte of a record
 abbrev pub simpleKind : Simple → ℕ

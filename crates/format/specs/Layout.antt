@@ -52,29 +52,23 @@ unfolding wordsFrom
 words-count z t zero a = refl
 words-count z t (suc n) a = rw (words-count z t n (suc a))
 
-pub record-fits : (z : Sizes) (t : List ℕ) (p : ℕ) → Fits (z .registers) (z .arrays) (recordOf z t p)
+-- what holds of RETURN, and of whatever is decoded at p, holds of the record there
+pub record-by : (P : Record → Type 0) (z : Sizes) (t : List ℕ) (p : ℕ) → P Return → ((r : Record) (n : ℕ) → decodeAt z t p ≡ Got r n → P r) → P (recordOf z t p)
 unfolding recordOf
-record-fits z t p = go (decodeAt z t p) refl
+record-by P z t p h g = go (decodeAt z t p) refl
   where
-    go : (d : Decoded) → decodeAt z t p ≡ d → Fits (z .registers) (z .arrays) (recordFrom d)
-    go (Got r n) e = good z t p e .fits
-    go (Bad n q) e = tt
+    go : (d : Decoded) → decodeAt z t p ≡ d → P (recordFrom d)
+    go (Got r n) e = g r n e
+    go (Bad n q) e = h
+
+pub record-fits : (z : Sizes) (t : List ℕ) (p : ℕ) → Fits (z .registers) (z .arrays) (recordOf z t p)
+record-fits z t p = record-by (Fits (z .registers) (z .arrays)) z t p tt (λ r n e. good z t p e .fits)
 
 pub record-reaches : (z : Sizes) (t : List ℕ) (p : ℕ) → Reaches (wordsFrom z t (z .arrays) 0) (recordOf z t p)
-unfolding recordOf
-record-reaches z t p = go (decodeAt z t p) refl
-  where
-    go : (d : Decoded) → decodeAt z t p ≡ d → Reaches (wordsFrom z t (z .arrays) 0) (recordFrom d)
-    go (Got r n) e = good z t p e .reaches
-    go (Bad n q) e = tt
+record-reaches z t p = record-by (Reaches (wordsFrom z t (z .arrays) 0)) z t p tt (λ r n e. good z t p e .reaches)
 
 pub record-keeps : (z : Sizes) (t : List ℕ) (p : ℕ) → Keeps (z .registers) (z .arrays) (z .functions) (recordOf z t p)
-unfolding recordOf
-record-keeps z t p = go (decodeAt z t p) refl
-  where
-    go : (d : Decoded) → decodeAt z t p ≡ d → Keeps (z .registers) (z .arrays) (z .functions) (recordFrom d)
-    go (Got r n) e = good z t p e .keeps
-    go (Bad n q) e = tt
+record-keeps z t p = record-by (Keeps (z .registers) (z .arrays) (z .functions)) z t p tt (λ r n e. good z t p e .keeps)
 
 -- THE TABLE that bytes stand for, by the sizes z; and by their own sizes
 abbrev pub tableWith : Sizes → List ℕ → Table

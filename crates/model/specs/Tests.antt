@@ -76,3 +76,13 @@ below-fails n p i l e = test (below n p) (λ b. b ≡ false) (λ h. absurd (true
 pub both : {A B : Type 0} (a b : Bool) → Decides A a → Decides B b → Decides (A × B) (pick a b false)
 both true b (f, g) (h, k) = (λ e. (f refl, h e), λ w. k (w .1))
 both false b (f, g) (h, k) = (λ e. absurd (true≢false (sym e)), λ w. g (w .0))
+
+-- every test of a list holds
+abbrev pub Trues : List Bool → Type 0
+Trues [] = Unit {0}
+Trues (b ∷ bs) = (b ≡ true) × Trues bs
+
+pub trues : (bs : List Bool) → all bs ≡ true → Trues bs
+trues [] h = tt
+trues (true ∷ bs) h = (refl, trues bs h)
+trues (false ∷ bs) h = absurd (true≢false (sym h))

@@ -2,12 +2,12 @@
 -- keep it, so that it holds of every environment that the walk of a table meets, once it holds of the signatures.
 use Prim.Native.Nat.{ℕ, zero, suc, _+_, _<_, max}
 use native.Mathlib.Omega.{arith}
-use mathlib.Core.Path.{_≡_, refl, sym}
-use mathlib.Core.Bool.{Bool, true, false, true≢false}
+use mathlib.Core.Path.{_≡_, refl}
+use mathlib.Core.Bool.{Bool, true, false}
 use mathlib.Core.List.{[], _∷_}
 use lib.Dec.{leb, ltb}
 use borrow.Author.Tests.{le-ltb}
-use Rattle.model.specs.Tests.{pick, all, put, same, pick-ind}
+use Rattle.model.specs.Tests.{pick, put, same, pick-ind, trues}
 use Rattle.model.specs.Levels.{Env, join}
 use Rattle.model.specs.Packing.{slot, envOf, levelsIn, packedIn}
 use Rattle.model.specs.Records.{SimpleFits, Fits, Keeps}
@@ -37,13 +37,9 @@ no-threes n m E w = (w .regs .known, w .arrays .known)
 -- the seven bytes that the reader lets pass
 pub packed-whole : (n m : ℕ) (e : Packed) → packedIn n m e ≡ true → Whole n m (envOf e)
 unfolding packedIn
-packed-whole n m e h = go (ltb (e .status) 2) (levelsIn n (e .registers)) (levelsIn m (e .arrays)) (levels-in n (e .registers) .0) (levels-in m (e .arrays) .0) h
-  where
-    go : (a b c : Bool) → (b ≡ true → Levelled n (slot (e .registers))) → (c ≡ true → Levelled m (slot (e .arrays))) → all (a ∷ b ∷ c ∷ []) ≡ true → Whole n m (envOf e)
-    go true true true f g h = record { regs = f refl; arrays = g refl }
-    go true true false f g h = absurd (true≢false (sym h))
-    go true false c f g h = absurd (true≢false (sym h))
-    go false b c f g h = absurd (true≢false (sym h))
+packed-whole n m e h =
+    let w = trues (ltb (e .status) 2 ∷ levelsIn n (e .registers) ∷ levelsIn m (e .arrays) ∷ []) h in
+    record { regs = levels-in n (e .registers) .0 (w .1 .0); arrays = levels-in m (e .arrays) .0 (w .1 .1 .0) }
 
 put-levelled : (n : ℕ) (f : ℕ → ℕ) (d v : ℕ) → Levelled n f → d < n → v < 3 → Levelled n (put f d v)
 put-levelled n f d v w l h = record {

@@ -8,7 +8,7 @@ use mathlib.Core.Option.{some}
 use lib.ListN.{length}
 use lib.Dec.{ltb, leb, eqb}
 use borrow.Author.Tests.{eq-eqb, le-leb}
-use Rattle.model.specs.Tests.{all, pick-ind}
+use Rattle.model.specs.Tests.{all, pick-ind, trues}
 use Rattle.model.specs.Packing.{packedIn}
 use Rattle.model.specs.Sites.{scan}
 use Rattle.model.specs.Scans.{scan-called, ret-alone, home-own}
@@ -19,7 +19,6 @@ use Rattle.model.specs.Code.{Reads as Known}
 use Rattle.model.specs.declared.Sizes.{Sizes}
 use Rattle.format.specs.Format.{byte, word16, packedAt}
 use Rattle.format.specs.Head.{then, sizesAt, arrayAt, signatureAt, arraysAt, signaturesAt}
-use Rattle.format.specs.Laws.{trues}
 use Rattle.format.specs.Layout.{sizesOf, signaturePlace, tableOf}
 use Rattle.format.specs.declared.To.{To}
 use Rattle.format.specs.declared.To.the-variants.{At, Fault as Off}

@@ -6,11 +6,10 @@ use mathlib.Core.Bool.{Bool}
 use lib.ListN.{length}
 use lib.Dec.{ltb, leb, eqb}
 use borrow.Author.Tests.{leb-true, ltb-false}
-use Rattle.model.specs.Tests.{all, pick-ind}
+use Rattle.model.specs.Tests.{all, pick-ind, trues}
 use Rattle.model.specs.declared.Sizes.{Sizes}
 use Rattle.format.specs.Format.{byte}
 use Rattle.format.specs.Head.{then, sizesAt}
-use Rattle.format.specs.Laws.{trues}
 use Rattle.format.specs.Layout.{sizesOf}
 use Rattle.format.specs.declared.To.{To}
 use Rattle.format.specs.declared.To.the-variants.{At, Fault as Off}

@@ -16,11 +16,8 @@ use Rattle.model.specs.Walk.{Walked as Walking, Next as Onward, Shut as Closed,
 use Rattle.model.specs.declared.Sizes.{Sizes}
 use Rattle.model.specs.declared.Record.{Record}
 use Rattle.model.specs.declared.Record.the-variants.{Do, Call, If, Else, Endif, While, Endwhile, Return}
-use Rattle.format.specs.Format.{decodeAt}
 use Rattle.format.specs.Laws.{good}
-use Rattle.format.specs.Layout.{recordFrom, recordOf}
-use Rattle.format.specs.declared.Decoded.{Decoded}
-use Rattle.format.specs.declared.Decoded.the-variants.{Got, Bad}
+use Rattle.format.specs.Layout.{recordOf, record-by}
 use Rattle.typing.specs.Walks.{table, size, recordWalk, blockWalk}
 
 module _ (z : Sizes) (t : List ℕ) where
@@ -57,12 +54,7 @@ module _ (z : Sizes) (t : List ℕ) where
   inside-by p Return h = tt
 
   record-inside : (p : ℕ) → Inside p (recordOf z t p)
-  unfolding recordOf
-  record-inside p = go (decodeAt z t p) refl
-    where
-      go : (d : Decoded) → decodeAt z t p ≡ d → Inside p (recordFrom d)
-      go (Got r n) e = let g = good z t p e in inside-by p r (omega (arith, g .next, g .whole))
-      go (Bad n q) e = tt
+  record-inside p = record-by (Inside p) z t p tt (λ r n e. let g = good z t p e in inside-by p r (omega (arith, g .next, g .whole)))
 
   shut-ok : (d at c from : ℕ) (w : Walking Environment) (g : ℕ → Environment → Walking Environment) → OkBlock c from w
       → ((p : ℕ) (E : Environment) → from ≤ p → p ≤ max from (length t + 4 * c) → Ok d at (g p E)) → Ok d at (onShut w g)
