@@ -25,7 +25,7 @@ use Rattle.model.specs.declared.Observation.the-variants.{Nothing, Addre
 use Rattle.model.specs.declared.Simple.{Simple}
 use Rattle.model.specs.declared.Simple.the-variants.{Const, Op, Select, Load, Store, Init, Update, Protect, LoadFixed, StoreFixed}
 use Rattle.model.specs.Rules.{kill, settle, written, raised, spilled, beside, Needs, after}
-use Rattle.model.specs.Monotone.{settle-ind}
+use Rattle.model.specs.Settled.{unsettled}
 use Rattle.model.specs.Machine.{Data, wordsOf, address, Work, halt, did, reg, wordAt, holds, wrote, stored, plain, byAccess, inRange, strayed, access, work}
 
 -- the highest level on which two runs agree
@@ -263,7 +263,7 @@ module _ (t : Table) where
 
         value : (m : Bool) → m ≡ mis → settle (E .regs s) ≤ top m → pick m 4294967295 (reg x s) ≡ pick m 4294967295 (reg y s)
         value true q l = refl
-        value false q l = h .regs s (rw (← q) (settle-ind (E .regs s) (λ k. k ≤ 1 → E .regs s ≤ 1) (λ p _. p) (λ _ p. p) l))
+        value false q l = h .regs s (rw (← q) (unsettled (E .regs s) l))
 
         shown : settle (E .regs s) ≤ top mis → pick (x .masked) 4294967295 (reg x s) ≡ pick (y .masked) 4294967295 (reg y s)
         shown l = rw (f₁, f₂) (value mis refl l)
@@ -288,8 +288,8 @@ module _ (t : Table) where
       wide₁ = h .wide₁;
       wide₂ = h .wide₂;
       long = h .long;
-      regs = λ i l. h .regs i (settle-ind (E .regs i) (λ k. k ≤ 1 → E .regs i ≤ 1) (λ p _. p) (λ _ p. p) l);
-      mem = h .mem;
+      regs = λ i l. h .regs i (unsettled (E .regs i) l);
+      mem = λ a i k l. h .mem a i k (unsettled (E .arrays a) l);
     },
   )
 

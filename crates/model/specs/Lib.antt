@@ -5,8 +5,10 @@ pub mod Records
 pub mod Table
 pub mod Blocks
 pub mod Rules
+pub mod Settled
 pub mod Words
 pub mod Monotone
+pub mod Before
 pub mod Flow
 pub mod Places
 pub mod Faults

@@ -1,17 +1,18 @@
--- Every rule is monotone: a lower environment types wherever a higher one does, and ends lower.
+-- Every rule is monotone: a lower environment types wherever a higher one does, and ends lower. So do lower rules.
 use Prim.Native.Nat.{ℕ, _≤_, _<_, max}
 use native.Mathlib.Omega.{arith}
 use native.Mathlib.Nat.{le-refl}
 use mathlib.Core.Path.{_≡_, refl, subst}
 use mathlib.Core.Bool.{Bool, true, false}
-use lib.Dec.{T, leb, ltb, leb→le, le→leb}
+use lib.Dec.{ltb}
 use Rattle.model.specs.Tests.{pick, same, test}
 use Rattle.model.specs.Levels.{Env, Covers, Within, join, within-refl, within-trans, join-left, join-right, join-least}
 use Rattle.model.specs.Records.{SimpleFits, Fits}
 use Rattle.model.specs.Packing.{envOf}
 use Rattle.model.specs.Table.{Table}
-use Rattle.model.specs.Rules.{kill, guardStatus, settle, written, raised, guarded, spilled, beside, Needs, after, NeedsOf, afterOf, typing}
-use Rattle.model.specs.Blocks.{Types, done, one, branch, loop}
+use Rattle.model.specs.Rules.{kill, guardStatus, settle, written, raised, guarded, spilled, beside, Needs, after, NeedsOf, afterBy, afterOf, typingBy, typing}
+use Rattle.model.specs.Settled.{settle-mono}
+use Rattle.model.specs.Blocks.{Types, done, one, branch, loop, TypesFunction}
 use Rattle.model.specs.declared.Status.{Status}
 use Rattle.model.specs.declared.Status.the-variants.{Unknown, Updated, Outdated}
 use Rattle.model.specs.declared.Simple.{Simple}
@@ -30,17 +31,6 @@ unfolding guardStatus
 guard-mono r b s Unknown h = tt
 guard-mono r b s Updated h = rw h
 guard-mono r b s (Outdated q c) h = tt
-
--- a settled level is 0, or the level itself, which is then secret
-pub settle-ind : (l : ℕ) (P : ℕ → Type 0) → (l ≤ 1 → P 0) → (2 ≤ l → P l) → P (settle l)
-unfolding settle
-settle-ind l P f g = test (leb l 1) (λ b. P (pick b 0 l)) (λ e. f (leb→le l 1 (rw e tt))) (λ e. g (omega (arith, over e)))
-  where
-    over : leb l 1 ≡ false → (l ≤ 1 → ⊥)
-    over e h = subst T e (le→leb l 1 h)
-
-settle-mono : (l m : ℕ) → l ≤ m → settle l ≤ settle m
-settle-mono l m h = settle-ind l (λ x. x ≤ settle m) (λ p. omega arith) (λ p. settle-ind m (λ y. l ≤ y) (λ q. omega arith) (λ q. h))
 
 beside-mono : (n l m b v w : ℕ) → l ≤ m → v ≤ w → beside n l b v ≤ beside n m b w
 unfolding beside
@@ -85,7 +75,7 @@ module _ (n m : ℕ) (E F : Env) (w : Within n m E F) where
   after-mono (Select d c y k) f = written-mono d _ _ (omega (arith, w .regs c (f .1), w .regs y (f .2), w .regs k (f .3)))
   after-mono (Load d a i) f = written-mono d _ _ (omega (arith, w .arrays a (f .1)))
   after-mono (Store a i s) f = raised-mono _ _ a _ _ (f .0) (λ b l. beside-mono m (E .regs s) (F .regs s) b (E .arrays b) (F .arrays b) (w .regs s (f .2)) (w .arrays b l)) (omega (arith, w .regs s (f .2)))
-  after-mono Init f = record { status = refl; regs = λ i l. settle-mono (E .regs i) (F .regs i) (w .regs i l); arrays = w .arrays }
+  after-mono Init f = record { status = refl; regs = λ i l. settle-mono (E .regs i) (F .regs i) (w .regs i l); arrays = λ a l. omega (arith, settle-mono (E .arrays a) (F .arrays a) (w .arrays a l)) }
   after-mono (Update r s) f = record { status = refl; regs = w .regs; arrays = w .arrays }
   after-mono (Protect d s) f = record {
     status = refl;
@@ -113,29 +103,49 @@ module _ (t : Table) where
   needs-of-down (Endwhile e) E F f w h = h
   needs-of-down Return E F f w h = h
 
-  pub after-of-mono : (i : Record) (E F : Env) → Fits (t .registers) (t .arrays) i → In E F → In (afterOf t i E) (afterOf t i F)
-  after-of-mono (Do s) E F f w = after-mono (t .registers) (t .arrays) E F w s f
-  after-of-mono (Call g m) E F f w = within-refl (t .registers) (t .arrays) _
-  after-of-mono (If r e) E F f w = w
-  after-of-mono (Else n) E F f w = w
-  after-of-mono Endif E F f w = w
-  after-of-mono (While r e L) E F f w = w
-  after-of-mono (Endwhile e) E F f w = w
-  after-of-mono Return E F f w = w
-
   fits-at : (p : ℕ) (i : Record) → t .rec p ≡ i → Fits (t .registers) (t .arrays) i
   fits-at p i e = subst (Fits (t .registers) (t .arrays)) e (t .fits p)
 
+  -- beside a rule that leaves no slot lower than 01's does
+  module _ (rule : Simple → Env → Env) (higher : (s : Simple) (F : Env) → In (after (t .arrays) s F) (rule s F)) where
+    after-of-below : (i : Record) (E F : Env) → Fits (t .registers) (t .arrays) i → In E F → In (afterOf t i E) (afterBy t rule i F)
+    after-of-below (Do s) E F f w = within-trans (t .registers) (t .arrays) _ _ _ (after-mono (t .registers) (t .arrays) E F w s f) (higher s F)
+    after-of-below (Call g m) E F f w = within-refl (t .registers) (t .arrays) _
+    after-of-below (If r e) E F f w = w
+    after-of-below (Else n) E F f w = w
+    after-of-below Endif E F f w = w
+    after-of-below (While r e L) E F f w = w
+    after-of-below (Endwhile e) E F f w = w
+    after-of-below Return E F f w = w
+
+    -- what that rule types from F, 01's types from any E within it, and ends within where that rule ends
+    pub types-below : {g p q : ℕ} {F F′ : Env} (E : Env) → In E F → Types t (typingBy t rule) g p F q F′ → (E′ : Env) × Types t (typing t) g p E q E′ × In E′ F′
+    types-below E w done = (E, done, w)
+    types-below E w (one {p = p} {E = F} i n d) =
+        let x = types-below (afterOf t (t .rec p) E) (after-of-below (t .rec p) E F (t .fits p) w) d in
+        (x .0, one i (needs-of-down (t .rec p) E F (t .fits p) w n) (x .1), x .2)
+    types-below E w (branch {p = p} {e = e} {r = r} {E = F} {E₁ = F₁} {E₂ = F₂} i g a j b k c) =
+        let x = types-below (guarded E r true) (guarded-mono (t .registers) (t .arrays) E F w r true) a in
+        let y = types-below (guarded E r false) (guarded-mono (t .registers) (t .arrays) E F w r false) b in
+        let z = types-below (join (x .0) (y .0)) (join-mono (t .registers) (t .arrays) (x .0) (y .0) F₁ F₂ (x .2) (y .2)) c in
+        (z .0, branch i (public-down (t .registers) (t .arrays) E F w r (fits-at p (If r e) i) g) (x .1) j (y .1) k (z .1), z .2)
+    types-below E w (loop {E = F} {L = L} i v g a j u c) =
+        let x = types-below (guarded (envOf L) _ true) (within-refl (t .registers) (t .arrays) _) a in
+        let z = types-below (guarded (envOf L) _ false) (within-refl (t .registers) (t .arrays) _) c in
+        (z .0, loop i (within-trans (t .registers) (t .arrays) E F (envOf L) w v) g (x .1) j (within-trans (t .registers) (t .arrays) _ _ (envOf L) (x .2) u) (z .1), z .2)
+
+    -- whatever function that rule types, 01's types
+    pub function-below : (f : ℕ) → TypesFunction t (typingBy t rule) f → TypesFunction t (typing t) f
+    function-below f d =
+        let x = types-below (t .enter f) (within-refl (t .registers) (t .arrays) _) (d .body) in
+        record { last = x .0; body = x .1; returns = d .returns; fits = within-trans (t .registers) (t .arrays) _ _ _ (x .2) (d .fits) }
+
+  itself : (s : Simple) (F : Env) → In (after (t .arrays) s F) (after (t .arrays) s F)
+  itself s F = within-refl (t .registers) (t .arrays) _
+
+  pub after-of-mono : (i : Record) (E F : Env) → Fits (t .registers) (t .arrays) i → In E F → In (afterOf t i E) (afterOf t i F)
+  after-of-mono = after-of-below (after (t .arrays)) itself
+
   -- what types from F types from any E within it, and ends within where F ends
   pub types-mono : {g p q : ℕ} {F F′ : Env} (E : Env) → In E F → Types t (typing t) g p F q F′ → (E′ : Env) × Types t (typing t) g p E q E′ × In E′ F′
-  types-mono E w done = (E, done, w)
-  types-mono E w (one {p = p} {E = F} i n d) =
-      let x = types-mono (afterOf t (t .rec p) E) (after-of-mono (t .rec p) E F (t .fits p) w) d in
-      (x .0, one i (needs-of-down (t .rec p) E F (t .fits p) w n) (x .1), x .2)
-  types-mono E w (branch {p = p} {e = e} {r = r} {E = F} {E₁ = F₁} {E₂ = F₂} i g a j b k c) =
-      let x = types-mono (guarded E r true) (guarded-mono (t .registers) (t .arrays) E F w r true) a in
-      let y = types-mono (guarded E r false) (guarded-mono (t .registers) (t .arrays) E F w r false) b in
-      let z = types-mono (join (x .0) (y .0)) (join-mono (t .registers) (t .arrays) (x .0) (y .0) F₁ F₂ (x .2) (y .2)) c in
-      (z .0, branch i (public-down (t .registers) (t .arrays) E F w r (fits-at p (If r e) i) g) (x .1) j (y .1) k (z .1), z .2)
-  types-mono E w (loop {E = F} {F = F′} {L = L} i v g a j u c) =
-      (F′, loop i (within-trans (t .registers) (t .arrays) E F (envOf L) w v) g a j u c, within-refl (t .registers) (t .arrays) F′)
+  types-mono = types-below (after (t .arrays)) itself

@@ -73,6 +73,10 @@ module _ (t : Table) (R : Rules) (h : ℕ) where
   begins-single p q E F (Endwhile k) s w = absurd s
   begins-single p q E F Return s w = absurd s
 
+  -- a derivation whose first record opens and closes no block: that record's needs are met, and the rest is a derivation
+  pub past-single : {p q : ℕ} {E F : R .Env} → Types t R h p E q F → Closes (t .rec q) → Single (t .rec p) → R .Needs h (t .rec p) E × Types t R h (p + lengthOf (t .rec p)) (R .after (t .rec p) E) q F
+  past-single {p = p} {q = q} {E = E} {F = F} w c s = begins-single p q E F (t .rec p) s (begins w c)
+
   begins-shut : (p q : ℕ) (E F : R .Env) (i : Record) → Closes i → Begins p E q F i → F ≡ E
   begins-shut p q E F (Do s) c w = absurd c
   begins-shut p q E F (Call f m) c w = absurd c
@@ -217,7 +221,7 @@ module _ (t : Table) (R : Rules) (D : Tests R) (g size : ℕ) (ok : Right R D g)
 
   one-case : (p q m : ℕ) → Single (t .rec p) → p + lengthOf (t .rec p) ≤ q → Closes (t .rec q) → Complete (p + lengthOf (t .rec p)) q m → Complete p q m
   one-case p q m i l c h = count p q m (omega arith) (λ d k E F x y w.
-      let b = begins-single t R g p q E F (t .rec p) i (begins t R g w c) in
+      let b = past-single t R g w c i in
       rw (single-at t R D (t .rec p) (blocks d p) p E i, ok .meets (t .rec p) E .1 (b .0))
       (h d k (R .after (t .rec p) E) F x (omega (arith, length-pos (t .rec p))) (b .1)))
 

@@ -62,9 +62,9 @@ stored m E a s = raised E (λ b. beside m (E .regs s) b (E .arrays b)) a (E .reg
 abbrev pub storedFixed : Env → ℕ → ℕ → Env
 storedFixed E a s = raised E (E .arrays) a (E .regs s)
 
--- INIT
+-- INIT. Order 3: "turns every transient register and array public"
 abbrev pub fenced : Env → Env
-fenced E = record { status = Updated; regs = λ i. settle (E .regs i); arrays = E .arrays }
+fenced E = record { status = Updated; regs = λ i. settle (E .regs i); arrays = λ a. settle (E .arrays a) }
 
 -- UPDATE
 abbrev pub updated : Env → Env
@@ -119,19 +119,23 @@ module _ (t : Table) where
   NeedsOf (Endwhile w) E = Unit {0}
   NeedsOf Return E = Unit {0}
 
-  abbrev pub afterOf : Record → Env → Env
-  afterOf (Do s) E = after (t .arrays) s E
-  afterOf (Call f m) E = returned (t .leave f) m E
-  afterOf (If r e) E = E
-  afterOf (Else n) E = E
-  afterOf Endif E = E
-  afterOf (While r e L) E = E
-  afterOf (Endwhile w) E = E
-  afterOf Return E = E
+  -- rule: what simple records make of the environment
+  abbrev pub afterBy : (rule : Simple → Env → Env) → Record → Env → Env
+  afterBy rule (Do s) E = rule s E
+  afterBy rule (Call f m) E = returned (t .leave f) m E
+  afterBy rule (If r e) E = E
+  afterBy rule (Else n) E = E
+  afterBy rule Endif E = E
+  afterBy rule (While r e L) E = E
+  afterBy rule (Endwhile w) E = E
+  afterBy rule Return E = E
 
--- document 01's rules
-abbrev pub typing : Table → Rules
-typing t = record {
+  abbrev pub afterOf : Record → Env → Env
+  afterOf = afterBy (after (t .arrays))
+
+-- document 01's rules, but for what simple records make of the environment
+abbrev pub typingBy : Table → (rule : Simple → Env → Env) → Rules
+typingBy t rule = record {
   Env = Env;
   Within = Within (t .registers) (t .arrays);
   within-refl = within-refl (t .registers) (t .arrays);
@@ -140,13 +144,17 @@ typing t = record {
   join-left = join-left (t .registers) (t .arrays);
   join-right = join-right (t .registers) (t .arrays);
   Needs = λ g. NeedsOf t;
-  after = afterOf t;
+  after = afterBy t rule;
   Public = λ E r. E .regs r ≡ 0;
   guarded = guarded;
   loop = envOf;
   enter = t .enter;
   leave = t .leave;
 }
+
+-- document 01's rules
+abbrev pub typing : Table → Rules
+typing t = typingBy t (after (t .arrays))
 
 -- the rules type every function of the table
 abbrev pub Typed : Table → Type 0

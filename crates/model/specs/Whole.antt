@@ -9,7 +9,7 @@ use lib.Dec.{leb, ltb}
 use borrow.Author.Tests.{le-ltb}
 use Rattle.model.specs.Tests.{pick, put, same, pick-ind, trues}
 use Rattle.model.specs.Levels.{Env, join}
-use Rattle.model.specs.Packing.{slot, envOf, levelsIn, packedIn}
+use Rattle.model.specs.Packing.{envOf, levelsIn, packedIn}
 use Rattle.model.specs.Records.{SimpleFits, Fits, Keeps}
 use Rattle.model.specs.Table.{Table}
 use Rattle.model.specs.Rules.{settle, beside, written, raised, guarded, after, afterOf, typing}
@@ -89,7 +89,7 @@ module _ (n m : ℕ) (E : Env) (w : Whole n m E) where
   after-whole (Select d c y k) f = written-whole d _ (f .0) (omega (arith, w .regs .known c, w .regs .known y, w .regs .known k))
   after-whole (Load d a i) f = written-whole d _ (f .0) (omega (arith, w .arrays .known a))
   after-whole (Store a i s) f = raised-whole _ a _ (beside-levelled m (E .regs s) (E .arrays) (w .arrays)) (f .0) (w .regs .known s)
-  after-whole Init f = record { regs = settle-levelled n (E .regs) (w .regs); arrays = w .arrays }
+  after-whole Init f = record { regs = settle-levelled n (E .regs) (w .regs); arrays = settle-levelled m _ (w .arrays) }
   after-whole (Update r s) f = record { regs = w .regs; arrays = w .arrays }
   after-whole (Protect d s) f = record { regs = put-levelled n (E .regs) d _ (w .regs) (f .0) (settle-known (E .regs s) (w .regs .known s)); arrays = w .arrays }
   after-whole (LoadFixed d a i) f = written-whole d _ (f .0) (w .arrays .known a)

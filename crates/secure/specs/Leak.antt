@@ -11,7 +11,7 @@ use Rattle.model.specs.Levels.{Env, join, joinStatus, sameStatus, within, withi
 use Rattle.model.specs.Packing.{slot, levelsIn, packedIn}
 use Rattle.model.specs.Table.{Table, entry}
 use Rattle.model.specs.Blocks.{Rules, TypesFunction, Every, done, one, branch}
-use Rattle.model.specs.Rules.{kill, guardStatus, callStatus, settle, beside, guarded, after, afterOf, typing}
+use Rattle.model.specs.Rules.{kill, guardStatus, callStatus, settle, beside, guarded, after, typingBy}
 use Rattle.model.specs.Walk.{blockWith as typeBlock, instrAt as typeInstr, functionAt as typeFunction}
 use Rattle.model.specs.Typing.{typeFrom}
 use Rattle.model.specs.Memory.{offsetIn}
@@ -46,33 +46,8 @@ asFixed (Protect d s) = Protect d s
 asFixed (LoadFixed d a i) = LoadFixed d a i
 asFixed (StoreFixed a i s) = StoreFixed a i s
 
-abbrev pub namedAfter : Table → Record → Env → Env
-namedAfter t (Do s) E = after (t .arrays) (asFixed s) E
-namedAfter t (Call f m) E = afterOf t (Call f m) E
-namedAfter t (If r e) E = E
-namedAfter t (Else n) E = E
-namedAfter t Endif E = E
-namedAfter t (While r e L) E = E
-namedAfter t (Endwhile w) E = E
-namedAfter t Return E = E
-
 abbrev pub namedOnly : Table → Rules
-namedOnly t = record {
-  Env = typing t .Env;
-  Within = typing t .Within;
-  within-refl = typing t .within-refl;
-  within-trans = typing t .within-trans;
-  join = typing t .join;
-  join-left = typing t .join-left;
-  join-right = typing t .join-right;
-  Needs = typing t .Needs;
-  after = namedAfter t;
-  Public = typing t .Public;
-  guarded = typing t .guarded;
-  loop = typing t .loop;
-  enter = typing t .enter;
-  leave = typing t .leave;
-}
+namedOnly t = typingBy t (λ s. after (t .arrays) (asFixed s))
 
 abbrev pub NamedPasses : List ℕ → Type 0
 NamedPasses t = Readable t × Every (tableOf t) (namedOnly (tableOf t))
@@ -145,7 +120,7 @@ T = tableOf leak
 
 -- the second block, by the wrong rule
 abbrev second : Env
-second = namedAfter T (T .rec 43) (namedAfter T (T .rec 38) (namedAfter T (T .rec 34) (guarded (T .enter 0) 0 false)))
+second = namedOnly T .after (T .rec 43) (namedOnly T .after (T .rec 38) (namedOnly T .after (T .rec 34) (guarded (T .enter 0) 0 false)))
 
 named-types : TypesFunction T (namedOnly T) 0
 unfolding below slot joinStatus sameStatus within kill guardStatus settle rowAt decodeAt wordsFrom recordOf returnOf

@@ -3,4 +3,5 @@ pub mod Walks
 pub mod Bounds
 pub mod Check
 pub mod Checked
+pub mod Before
 pub mod Slots

@@ -215,7 +215,7 @@ fn after_init(e: Env) -> Env
     ensures { λ r. ⌜ viewEnv r ≡ fenced (viewEnv e) ⌝ }
 {
     let registers = settle_levels(e.registers);
-    let arrays = e.arrays;
+    let arrays = settle_levels(e.arrays);
     Env {
         status: Status::Updated,
         registers,

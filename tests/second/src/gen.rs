@@ -1,10 +1,13 @@
 //! Seeded tables, directive lists and cases.
 //!
-//! * [`good`]: tables that read and type, written by following the typing rules.
+//! * [`good`]: tables that read and type, written by following the typing rules as
+//!   they were before 02's order 3, so that they stay the same over that order.
+//! * [`settled`]: tables that read and type, written by following the rules as they
+//!   are, with much that passes only since INIT settles arrays.
 //! * [`spoiled`]: tables that read but fail with a chosen number from 10 to 14
 //!   (and 6, which needs a table of its own), with the place that is due.
 //! * [`damaged`]: tables that fail with a chosen number from 1 to 9, with the
-//!   place that is due; [`mutated`]: good tables with a few bytes changed;
+//!   place that is due; [`mutated`]: good or settled tables with a few bytes changed;
 //!   [`altered`]: with a few fields changed within their ranges, so that they
 //!   read; [`random`]: bytes by chance.
 //! * [`by_rules`]: tables that type by wrong rules; [`check_by`]: whether one does.
@@ -79,11 +82,15 @@ impl Rng {
     }
 }
 
-/// The rules that a table is written by: the right ones, or one of several wrong
-/// ones. Tables by wrong rules show what a comparison of runs can find.
+/// The rules that a table is written by: the right ones, those before 02's order 3,
+/// or one of several wrong ones. Tables by wrong rules show what a comparison of runs
+/// can find.
 #[derive(Clone, Copy, Debug, PartialEq, Eq)]
 pub enum Rules {
     Right,
+    /// 01's INIT before order 3, "arrays keep their levels". Not wrong but narrower:
+    /// "Tables that passed before still pass".
+    InitKeepsArrays,
     /// "A LOAD from a public array called public"
     LoadPublic,
     /// "A STORE that raises only the array it names."
@@ -100,6 +107,8 @@ pub enum Rules {
     ProtectAll,
     /// INIT makes secret registers public.
     InitAll,
+    /// INIT makes secret arrays public.
+    InitAllArrays,
     /// A write to r leaves outdated(r, s) as it is.
     WriteOutdated,
     /// WHILE goes on with the arriving environment, not L.
@@ -115,7 +124,7 @@ pub enum Rules {
 }
 
 impl Rules {
-    pub const WRONG: [Rules; 14] = [
+    pub const WRONG: [Rules; 15] = [
         Rules::LoadPublic,
         Rules::StoreNamed,
         Rules::CallKeeps,
@@ -124,6 +133,7 @@ impl Rules {
         Rules::BranchUpdated,
         Rules::ProtectAll,
         Rules::InitAll,
+        Rules::InitAllArrays,
         Rules::WriteOutdated,
         Rules::LoopArriving,
         Rules::FixedPublic,
@@ -307,6 +317,13 @@ impl Model {
                         *level = PUBLIC;
                     }
                 }
+                for level in &mut self.arrays {
+                    if *level == TRANSIENT && rules != Rules::InitKeepsArrays
+                        || rules == Rules::InitAllArrays
+                    {
+                        *level = PUBLIC;
+                    }
+                }
                 self.status = Status::Updated;
             }
             Instr::Update { .. } => self.status = Status::Updated,
@@ -357,9 +374,21 @@ pub fn good(seed: u64) -> Vec<u8> {
     good_of(shape, &mut rng)
 }
 
-/// A table of this shape that reads and types.
+/// A table of this shape that reads and types. By the rules before order 3 it is the
+/// same table as before that order, so that `bench` can be compared over it.
 pub fn good_of(shape: Shape, rng: &mut Rng) -> Vec<u8> {
-    Author::new(shape, rng, Rules::Right, None).write().0
+    Author::new(shape, rng, Rules::InitKeepsArrays, None).write().0
+}
+
+/// A table that reads and types; about half of these do so only since order 3.
+pub fn settled(seed: u64) -> Vec<u8> {
+    by_rules(Rules::Right, seed)
+}
+
+/// A good or a settled table of this shape.
+fn good_or_settled(shape: Shape, rng: &mut Rng) -> Vec<u8> {
+    let rules = rng.pick(&[Rules::InitKeepsArrays, Rules::Right]);
+    Author::new(shape, rng, rules, None).write().0
 }
 
 /// A table that reads, written by these rules.
@@ -621,6 +650,7 @@ impl<'r> Author<'r> {
                 self.try_spoil();
             }
         }
+        self.settle(1, 6);
         self.freshen(1, 2);
 
         let mut output = self.env;
@@ -751,6 +781,28 @@ impl<'r> Author<'r> {
         }
     }
 
+    /// By the author's rules INIT makes transient arrays public.
+    fn settles(&self) -> bool {
+        self.rules != Rules::InitKeepsArrays
+    }
+
+    /// INIT, some of the times that it settles an array.
+    fn settle(&mut self, of: usize, all: usize) {
+        if self.settles() && self.env.arrays.contains(&TRANSIENT) && self.rng.chance(of, all) {
+            self.emit(Instr::Init);
+        }
+    }
+
+    /// The present environment, or at times, where INIT settles arrays, what an INIT
+    /// would make of it.
+    fn at_best(&mut self) -> Model {
+        let mut env = self.env;
+        if self.settles() && self.rng.chance(1, 2) {
+            env.apply(&Instr::Init, self.words.len(), self.rules);
+        }
+        env
+    }
+
     /// Makes the status updated.
     fn update(&mut self) {
         self.freshen(1, 1);
@@ -759,8 +811,11 @@ impl<'r> Author<'r> {
         }
     }
 
-    /// Brings registers and status within `to`; arrays are so already.
+    /// Brings the environment within `to`; arrays are so already, or INIT settles them.
     fn lower(&mut self, to: &Model) {
+        if !self.env.arrays_within(&to.arrays) {
+            self.emit(Instr::Init);
+        }
         if to.status == Status::Updated {
             self.update();
         }
@@ -863,7 +918,11 @@ impl<'r> Author<'r> {
         if self.rng.chance(1, 8) && self.try_spoil() {
             return;
         }
-        if self.rules != Rules::Right && self.rng.chance(1, 4) && self.telling().is_some() {
+        let wrong = Rules::WRONG.contains(&self.rules);
+        if wrong && self.rng.chance(1, 4) && self.telling().is_some() {
+            return;
+        }
+        if self.settles() && self.rng.chance(1, 16) && self.settling().is_some() {
             return;
         }
         // A phrase that finds no register or array writes nothing.
@@ -900,6 +959,7 @@ impl<'r> Author<'r> {
             Rules::StoreNamed => self.spilled(),
             Rules::FixedPublic => self.load_fixed(),
             Rules::FixedRaisesNone | Rules::FixedLowers => self.store_fixed(),
+            Rules::InitAllArrays => self.settling(),
             Rules::FixedOutdated => {
                 self.update();
                 self.guarded()
@@ -998,6 +1058,18 @@ impl<'r> Author<'r> {
             self.emit(Instr::LoadFixed { dest, array, index });
             self.expose(dest);
         }
+        Some(())
+    }
+
+    /// INIT, and after it a LOAD FIXED of an array that was not public before.
+    fn settling(&mut self) -> Option<()> {
+        let hidden = |author: &Self, array| author.env.arrays[usize::from(array)] != PUBLIC;
+        let array = self.array_such(hidden)?;
+        let dest = self.free()?;
+        self.emit(Instr::Init);
+        let index = self.fixed_index(array);
+        self.emit(Instr::LoadFixed { dest, array, index });
+        self.expose(dest);
         Some(())
     }
 
@@ -1116,8 +1188,9 @@ impl<'r> Author<'r> {
             0 => self.number - 1,
             _ => self.rng.below(self.number),
         };
+        let arriving = self.at_best();
         let callee = (0..self.number).map(|step| (first + step) % self.number).find(|&callee| {
-            self.env.arrays_within(&self.inputs[callee].arrays)
+            arriving.arrays_within(&self.inputs[callee].arrays)
                 && self.outputs[callee].arrays_within(&self.ceiling)
         })?;
         let input = self.inputs[callee];
@@ -1237,6 +1310,18 @@ impl<'r> Author<'r> {
         of
     }
 
+    /// The array levels that a loop's body may reach: those of L or, at times, where
+    /// INIT settles arrays, transient in place of public.
+    fn body_ceiling(&mut self, of: &Model) -> [u8; 8] {
+        let mut most = of.arrays;
+        if self.settles() && self.rng.chance(1, 2) {
+            for (level, &outer) in most.iter_mut().zip(&self.ceiling) {
+                *level = outer.min(TRANSIENT).max(*level);
+            }
+        }
+        most
+    }
+
     fn repeat(&mut self) -> Option<()> {
         if self.depth == MAX_NESTING {
             return None;
@@ -1253,13 +1338,14 @@ impl<'r> Author<'r> {
         } else {
             self.public()?
         };
+        self.settle(1, 4);
         let of = self.invariant(register);
         let held = self.held;
         let ceiling = self.ceiling;
         if counting {
             self.held |= 1 << register;
         }
-        self.ceiling = of.arrays;
+        self.ceiling = self.body_ceiling(&of);
         let looping = self.open_while(register, of);
         self.freshen(4, 5);
         self.block(4);
@@ -1298,7 +1384,7 @@ impl<'r> Author<'r> {
         if self.rng.chance(1, 3) {
             let of = self.invariant(register);
             let ceiling = self.ceiling;
-            self.ceiling = of.arrays;
+            self.ceiling = self.body_ceiling(&of);
             let looping = self.open_while(register, of);
             let _ = self.tower_to(deepest);
             if self.rng.chance(1, 2) {
@@ -1882,13 +1968,13 @@ fn wrong_kind(bytes: &[u8], place: usize, rng: &mut Rng) -> u8 {
     }
 }
 
-/// A good table with a few bytes changed, put in, left out or copied.
+/// A good or settled table with a few bytes changed, put in, left out or copied.
 pub fn mutated(seed: u64) -> Vec<u8> {
     let mut rng = Rng::new(seed ^ 0x6d75_7461);
     let shape = if rng.chance(4, 5) { Shape::SMALL } else { Shape::MIDDLE };
     let mut bytes = match rng.below(4) {
         0 => spoiled(rng.between(10, 14) as u8, seed).0,
-        _ => good_of(shape, &mut rng),
+        _ => good_or_settled(shape, &mut rng),
     };
     if rng.chance(1, 4) {
         // Two faults, to tell which comes first. (The first leaves all kinds as
@@ -1979,12 +2065,12 @@ pub fn random(seed: u64) -> Vec<u8> {
     bytes
 }
 
-/// A good table with a few fields, levels or kinds changed within their ranges:
-/// it still reads, and may or may not type.
+/// A good or settled table with a few fields, levels or kinds changed within their
+/// ranges: it still reads, and may or may not type.
 pub fn altered(seed: u64) -> Vec<u8> {
     let mut rng = Rng::new(seed ^ 0x616c_7465);
     let shape = if rng.chance(2, 3) { Shape::SMALL } else { Shape::MIDDLE };
-    let mut bytes = good_of(shape, &mut rng);
+    let mut bytes = good_or_settled(shape, &mut rng);
     let all = records(&bytes);
     for _ in 0..rng.between(1, 4) {
         let (place, _) = rng.pick(&all);
@@ -2423,7 +2509,8 @@ pub fn check_case(seed: u64) -> (Vec<u8>, Expected) {
     let mut rng = Rng::new(seed ^ 0xc4ec);
     let inner = rng.next();
     match rng.below(10) {
-        0..=2 => (good(inner), Some(None)),
+        0 | 1 => (good(inner), Some(None)),
+        2 => (settled(inner), Some(None)),
         3 | 4 => {
             let number = rng.between(10, 14) as u8;
             let (table, place) = spoiled(number, inner);

@@ -12,8 +12,9 @@
 //! * [`pairs`]: two runs with different secrets.
 //! * [`text`]: cases and results as lines.
 //!
-//! Order 1 of `02-change-requests.md` (02) is built too: LOAD FIXED and STORE
-//! FIXED, kinds 1B and 1C.
+//! Orders 1 and 3 of `02-change-requests.md` (02) are built too: LOAD FIXED and
+//! STORE FIXED, kinds 1B and 1C, and INIT settling arrays. (Order 2 changes no
+//! answer.)
 //!
 //! Words of 01 and 02 stand in quotation marks in the comments.
 

@@ -22,8 +22,6 @@ pub enum Status {
 
 /// The lower bit of every slot.
 const LOW: u64 = 0x5555_5555_5555;
-/// The registers' slots.
-const REGISTERS: u64 = 0xffff_ffff;
 /// One slot.
 const SLOT: u64 = 0b11;
 const TRANSIENT_BITS: u64 = 0b01;
@@ -239,11 +237,11 @@ impl Env {
                 let bits = self.get(register_slot(source));
                 self.raise(array_slot(array), bits);
             }
-            // "INIT: every transient register becomes public; arrays keep their
-            // levels; status updated."
+            // 02, order 3: "INIT turns every transient register and array public";
+            // 01: "status updated". Only the secret slots keep their bits.
             Instr::Init => {
-                let secret = (self.levels >> 1) & LOW & REGISTERS;
-                self.levels = (self.levels & !REGISTERS) | secret | (secret << 1);
+                let secret = (self.levels >> 1) & LOW;
+                self.levels = secret | (secret << 1);
                 self.status = Status::Updated;
             }
             // "UPDATE (r, s): status must be outdated(r, s); becomes updated."

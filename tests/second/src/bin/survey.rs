@@ -4,6 +4,7 @@
 
 use second::gen::{self, Rng, Rules};
 use second::{check, message, pairs, run, table, Outcome, Verdict};
+use std::ops::Range;
 
 /// Pairs of runs for each table.
 const PAIRS: usize = 4;
@@ -50,6 +51,78 @@ fn verdict_name(verdict: &Verdict) -> String {
     }
 }
 
+/// Counts a verdict. "Tables that passed before still pass" (02, order 3): those that
+/// pass only since then are counted by what they were refused with.
+fn judged(tally: &mut Tally, table: &[u8], seed: u64) -> Verdict {
+    let verdict = check(table);
+    tally.count(&verdict_name(&verdict));
+    let passes = matches!(verdict, Verdict::Accepted { .. });
+    match gen::check_by(Rules::InitKeepsArrays, table) {
+        Ok(_) => tally.must(passes, "passed before order 3", seed),
+        Err(fault) if passes => tally.count(&format!("accepted, before {:02}", fault.number)),
+        Err(_) => {}
+    }
+    verdict
+}
+
+/// Tables that must pass, and the records in them.
+fn passing(tally: &mut Tally, name: &str, of: fn(u64) -> Vec<u8>, seeds: Range<u64>) {
+    let mut instrs = 0u64;
+    let mut bytes = 0u64;
+    for seed in seeds.clone() {
+        let table = of(seed);
+        let verdict = judged(tally, &table, seed);
+        tally.must(matches!(verdict, Verdict::Accepted { .. }), name, seed);
+        if let Ok(read) = table::read(&table) {
+            bytes += table.len() as u64;
+            for (_, instr) in read.instrs() {
+                instrs += 1;
+                let name = format!("{:?}", instr);
+                let name = name.split(|letter: char| !letter.is_alphanumeric()).next();
+                tally.count(&format!("record {}", name.unwrap_or("")));
+                if let table::Instr::Call { mark: 1, .. } = instr {
+                    tally.count("record Call, marked");
+                }
+            }
+        }
+    }
+    let count = seeds.end - seeds.start;
+    println!("{} {} tables, {} bytes, {} instructions", count, name, bytes, instrs);
+    tally.report(&format!("verdicts on and records in {} tables", name));
+}
+
+/// Two runs with different secrets under one list.
+fn paired(tally: &mut Tally, name: &str, of: fn(u64) -> Vec<u8>, seeds: Range<u64>) {
+    for seed in seeds {
+        let table = of(seed);
+        let mut rng = Rng::new(seed ^ 0x2222);
+        for _ in 0..PAIRS {
+            let pair = pairs::pair(&table, &mut rng);
+            tally.must(pair.alike, "pair not alike", seed);
+            tally.must(pair.kept, "pair not kept", seed);
+            tally.count("pairs");
+            if pair.differing {
+                tally.count("pairs with different secrets");
+            }
+            tally.add("wrong branches", pair.written.wrong_branches);
+            tally.add("wrong returns", pair.written.wrong_returns);
+            tally.add("stray accesses", pair.written.strays);
+            tally.count(&format!("pairs, stack {:02} deep", pair.written.deepest));
+            if let Outcome::Stopped { number, steps, misspeculating, masked, .. } = pair.outcome {
+                tally.add("steps", steps);
+                tally.count(&format!("pairs stop {}", number));
+                if misspeculating {
+                    tally.count("pairs misspeculating");
+                }
+                if masked {
+                    tally.count("pairs masked");
+                }
+            }
+        }
+    }
+    tally.report(&format!("pairs of runs of {} tables", name));
+}
+
 /// Counts a table, whether it is refused, and whether runs of it leak.
 fn seen(tally: &mut Tally, name: &str, table: &[u8], seed: u64) {
     tally.count(name);
@@ -74,28 +147,8 @@ fn main() {
     let count: u64 = arguments.next().unwrap_or(2_000);
     let mut tally = Tally::default();
 
-    let mut instrs = 0u64;
-    let mut bytes = 0u64;
-    for seed in start..start + count {
-        let good = gen::good(seed);
-        let verdict = check(&good);
-        tally.count(&verdict_name(&verdict));
-        tally.must(matches!(verdict, Verdict::Accepted { .. }), "good", seed);
-        if let Ok(read) = table::read(&good) {
-            bytes += good.len() as u64;
-            for (_, instr) in read.instrs() {
-                instrs += 1;
-                let name = format!("{:?}", instr);
-                let name = name.split(|letter: char| !letter.is_alphanumeric()).next();
-                tally.count(&format!("record {}", name.unwrap_or("")));
-                if let table::Instr::Call { mark: 1, .. } = instr {
-                    tally.count("record Call, marked");
-                }
-            }
-        }
-    }
-    println!("{} good tables, {} bytes, {} instructions", count, bytes, instrs);
-    tally.report("verdicts on and records in good tables");
+    passing(&mut tally, "good", gen::good, start..start + count);
+    passing(&mut tally, "settled", gen::settled, start..start + count);
 
     for number in 10..=14 {
         for seed in start..start + count {
@@ -117,15 +170,13 @@ fn main() {
 
     for seed in start..start + count {
         let table = gen::mutated(seed);
-        let verdict = check(&table);
-        tally.count(&verdict_name(&verdict));
+        let verdict = judged(&mut tally, &table, seed);
         message::of_verdict(&verdict, &table).of(&table, &[]);
     }
     tally.report("mutated tables");
 
     for seed in start..start + count {
-        let verdict = check(&gen::altered(seed));
-        tally.count(&verdict_name(&verdict));
+        let verdict = judged(&mut tally, &gen::altered(seed), seed);
         let reads = !matches!(verdict, Verdict::Refused { number: 1..=9, .. });
         tally.must(reads, "altered", seed);
     }
@@ -166,35 +217,8 @@ fn main() {
     }
     tally.report("runs");
 
-    // Two runs with different secrets under one list.
-    for seed in start..start + count {
-        let table = gen::good(seed);
-        let mut rng = Rng::new(seed ^ 0x2222);
-        for _ in 0..PAIRS {
-            let pair = pairs::pair(&table, &mut rng);
-            tally.must(pair.alike, "pair not alike", seed);
-            tally.must(pair.kept, "pair not kept", seed);
-            tally.count("pairs");
-            if pair.differing {
-                tally.count("pairs with different secrets");
-            }
-            tally.add("wrong branches", pair.written.wrong_branches);
-            tally.add("wrong returns", pair.written.wrong_returns);
-            tally.add("stray accesses", pair.written.strays);
-            tally.count(&format!("pairs, stack {:02} deep", pair.written.deepest));
-            if let Outcome::Stopped { number, steps, misspeculating, masked, .. } = pair.outcome {
-                tally.add("steps", steps);
-                tally.count(&format!("pairs stop {}", number));
-                if misspeculating {
-                    tally.count("pairs misspeculating");
-                }
-                if masked {
-                    tally.count("pairs masked");
-                }
-            }
-        }
-    }
-    tally.report("pairs of runs of good tables");
+    paired(&mut tally, "good", gen::good, start..start + count);
+    paired(&mut tally, "settled", gen::settled, start..start + count);
 
     // The same with tables that do not type, or type by wrong rules: some must
     // be seen to leak, or the comparison shows nothing.

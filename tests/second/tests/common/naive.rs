@@ -318,7 +318,8 @@ impl<'a> Reader<'a> {
             }
             0x1c => env.arrs[f[1]] = env.arrs[f[1]].max(env.regs[f[4]]),
             0x15 => {
-                for level in env.regs.iter_mut().filter(|level| **level == 1) {
+                let levels = env.regs.iter_mut().chain(&mut env.arrs);
+                for level in levels.filter(|level| **level == 1) {
                     *level = 0;
                 }
                 env.status = Status::Updated;

@@ -1,5 +1,4 @@
 use native.Mathlib.Omega.{arith}
-use Rattle.model.specs.Packing.{slot}
 use Rattle.model.specs.declared.Status.the-variants.{Updated}
 use Rattle.typing.proofs.Packed.{settle-slots}
 use borrow.Author.Needs.{needs}
@@ -12,11 +11,15 @@ use Rattle.levels.proofs.settle_levels.Reads as settle-levels-reads
 settle-levels-requires : tie.Need-settle-levels-requires
 settle-levels-requires c κs = search needs
 
+settle-levels-requires-2 : tie.Need-settle-levels-requires-2
+settle-levels-requires-2 c κs = search needs
+
 returns : tie.Need-returns
 returns c =
-    let a = c .before .args in
-    let regs = settle-slots (a .e .registers) (omega arith) (c .before .pre .0) (c .settle-levels .ensures) in
-    λ i. record { status = Updated; regs = regs i; arrays = slot (a .e .arrays) }
+    let b = c .before .before in
+    let regs = settle-slots (b .args .e .registers) (omega arith) (b .pre .0) (c .before .settle-levels .ensures) in
+    let arrays = settle-slots (b .args .e .arrays) (omega arith) (b .pre .1) (c .settle-levels2 .ensures) in
+    λ i. record { status = Updated; regs = regs i; arrays = arrays i }
 
 pub after-init-spec : {M : Type 1} → statement M
-after-init-spec = tie.close (tie.spec settle-levels-requires returns)
+after-init-spec = tie.close (tie.spec settle-levels-requires settle-levels-requires-2 returns)
