@@ -1,8 +1,9 @@
 //! An implementation with an error put in, to see that the comparison finds it.
 
 use crate::sides::{Rattle, Second, Side};
+use second::gen::{self, Rules};
 use second::message::{Part, Slice};
-use second::{table, Outcome, Verdict};
+use second::{table, Fault, Outcome, Verdict};
 
 #[derive(Clone, Copy, Debug, PartialEq, Eq)]
 pub enum Error {
@@ -12,6 +13,8 @@ pub enum Error {
     Passes13,
     /// Bytes after the last RETURN are not seen.
     Passes9,
+    /// INIT leaves arrays as they are, the rule before order 3.
+    InitKeepsArrays,
     /// A message for 4 shows the kind byte only.
     ShowsKindOnly,
     /// A message may show bytes past the end.
@@ -39,10 +42,11 @@ pub enum Error {
 }
 
 impl Error {
-    pub const ALL: [Error; 15] = [
+    pub const ALL: [Error; 16] = [
         Error::PlaceOfFault12,
         Error::Passes13,
         Error::Passes9,
+        Error::InitKeepsArrays,
         Error::ShowsKindOnly,
         Error::ShowsPastTheEnd,
         Error::OneStepMore,
@@ -80,10 +84,18 @@ pub struct Planted<S> {
     pub error: Error,
 }
 
+fn verdict_by(rules: Rules, table: &[u8]) -> Verdict {
+    match gen::check_by(rules, table) {
+        Ok(functions) => Verdict::Accepted { functions, bytes: table.len() },
+        Err(Fault { number, place }) => Verdict::Refused { number, place },
+    }
+}
+
 impl<S: Side> Side for Planted<S> {
     fn check(&self, table: &[u8]) -> Verdict {
         let verdict = self.side.check(table);
         match (self.error, verdict) {
+            (Error::InitKeepsArrays, _) => verdict_by(Rules::InitKeepsArrays, table),
             (Error::PlaceOfFault12, Verdict::Refused { number: 12, place })
                 if table[place] == table::kind::ENDWHILE =>
             {

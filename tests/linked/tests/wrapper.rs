@@ -34,7 +34,7 @@ fn the_examples_are_answered_alike() {
         assert!(compared(&case, &Rattle, &Second).is_ok(), "{}", case.text());
         count += 1;
     }
-    assert!(count >= 18, "{} tables", count);
+    assert!(count >= 20, "{} tables", count);
 }
 
 /// Document 02, order 1: the hash by LOAD is refused, by LOAD FIXED it passes.
@@ -62,6 +62,32 @@ fn hashes_with_round_constants() {
             (state ^ word).wrapping_mul(*by).wrapping_add(*word)
         });
     assert_eq!(memory[12], digest);
+}
+
+/// Document 02, order 3: the gauge passes with its PROTECTs, as before, and without them. Both sum what the channels name, and what they
+/// show does not depend on the readings.
+#[test]
+fn gauges_with_a_settled_array() {
+    let by_protect = include_bytes!("../../examples/gauge-protect.table");
+    let by_init = include_bytes!("../../examples/gauge-init.table");
+    assert_eq!(linked::check(by_protect), Verdict::Accepted { functions: 1, bytes: 77 });
+    assert_eq!(linked::check(by_init), Verdict::Accepted { functions: 1, bytes: 71 });
+    for (table, steps) in [(&by_protect[..], 11), (&by_init[..], 9)] {
+        let summed = |readings: [u32; 4]| {
+            let mut memory = [&[3, 1], &readings[..], &[0]].concat();
+            let mut observations = [0; 40];
+            let list = vec![0x60; steps];
+            let outcome = linked::run(table, &mut [7, 8, 9], &mut memory, &list, &mut observations);
+            let place = table.len() - 1;
+            let stopped =
+                Outcome::Stopped { number: 21, place, steps, misspeculating: false, masked: false };
+            assert_eq!(outcome, stopped);
+            (memory[6], observations)
+        };
+        let (first, second) = (summed([10, 20, 30, 40]), summed([1, 2, 3, 4]));
+        assert_eq!((first.0, second.0), (60, 6));
+        assert_eq!(first.1, second.1);
+    }
 }
 
 /// What a STORE that raises only the array it names would let out: the proved check refuses the table, and the proved machine shows the

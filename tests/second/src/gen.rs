@@ -1,13 +1,11 @@
 //! Seeded tables, directive lists and cases.
 //!
-//! * [`good`]: tables that read and type, written by following the typing rules as
-//!   they were before 02's order 3, so that they stay the same over that order.
-//! * [`settled`]: tables that read and type, written by following the rules as they
-//!   are, with much that passes only since INIT settles arrays.
+//! * [`good`]: tables that read and type, written by following the typing rules. About
+//!   half of them pass only since INIT settles arrays (02's order 3).
 //! * [`spoiled`]: tables that read but fail with a chosen number from 10 to 14
 //!   (and 6, which needs a table of its own), with the place that is due.
 //! * [`damaged`]: tables that fail with a chosen number from 1 to 9, with the
-//!   place that is due; [`mutated`]: good or settled tables with a few bytes changed;
+//!   place that is due; [`mutated`]: good tables with a few bytes changed;
 //!   [`altered`]: with a few fields changed within their ranges, so that they
 //!   read; [`random`]: bytes by chance.
 //! * [`by_rules`]: tables that type by wrong rules; [`check_by`]: whether one does.
@@ -369,33 +367,24 @@ impl Shape {
 
 /// A table that reads and types.
 pub fn good(seed: u64) -> Vec<u8> {
-    let mut rng = Rng::new(seed);
-    let shape = Shape::any(&mut rng);
-    good_of(shape, &mut rng)
-}
-
-/// A table of this shape that reads and types. By the rules before order 3 it is the
-/// same table as before that order, so that `bench` can be compared over it.
-pub fn good_of(shape: Shape, rng: &mut Rng) -> Vec<u8> {
-    Author::new(shape, rng, Rules::InitKeepsArrays, None).write().0
-}
-
-/// A table that reads and types; about half of these do so only since order 3.
-pub fn settled(seed: u64) -> Vec<u8> {
     by_rules(Rules::Right, seed)
 }
 
-/// A good or a settled table of this shape.
-fn good_or_settled(shape: Shape, rng: &mut Rng) -> Vec<u8> {
-    let rules = rng.pick(&[Rules::InitKeepsArrays, Rules::Right]);
-    Author::new(shape, rng, rules, None).write().0
+/// A table of this shape that reads and types.
+pub fn good_of(shape: Shape, rng: &mut Rng) -> Vec<u8> {
+    of_shape_by(Rules::Right, shape, rng)
 }
 
 /// A table that reads, written by these rules.
 pub fn by_rules(rules: Rules, seed: u64) -> Vec<u8> {
     let mut rng = Rng::new(seed);
     let shape = Shape::any(&mut rng);
-    Author::new(shape, &mut rng, rules, None).write().0
+    of_shape_by(rules, shape, &mut rng)
+}
+
+/// A table of this shape that reads, written by these rules.
+pub fn of_shape_by(rules: Rules, shape: Shape, rng: &mut Rng) -> Vec<u8> {
+    Author::new(shape, rng, rules, None).write().0
 }
 
 /// Reads a table and types it by these rules, level by level; gives how many
@@ -1968,13 +1957,13 @@ fn wrong_kind(bytes: &[u8], place: usize, rng: &mut Rng) -> u8 {
     }
 }
 
-/// A good or settled table with a few bytes changed, put in, left out or copied.
+/// A good table with a few bytes changed, put in, left out or copied.
 pub fn mutated(seed: u64) -> Vec<u8> {
     let mut rng = Rng::new(seed ^ 0x6d75_7461);
     let shape = if rng.chance(4, 5) { Shape::SMALL } else { Shape::MIDDLE };
     let mut bytes = match rng.below(4) {
         0 => spoiled(rng.between(10, 14) as u8, seed).0,
-        _ => good_or_settled(shape, &mut rng),
+        _ => good_of(shape, &mut rng),
     };
     if rng.chance(1, 4) {
         // Two faults, to tell which comes first. (The first leaves all kinds as
@@ -2065,12 +2054,12 @@ pub fn random(seed: u64) -> Vec<u8> {
     bytes
 }
 
-/// A good or settled table with a few fields, levels or kinds changed within their
-/// ranges: it still reads, and may or may not type.
+/// A good table with a few fields, levels or kinds changed within their ranges:
+/// it still reads, and may or may not type.
 pub fn altered(seed: u64) -> Vec<u8> {
     let mut rng = Rng::new(seed ^ 0x616c_7465);
     let shape = if rng.chance(2, 3) { Shape::SMALL } else { Shape::MIDDLE };
-    let mut bytes = good_or_settled(shape, &mut rng);
+    let mut bytes = good_of(shape, &mut rng);
     let all = records(&bytes);
     for _ in 0..rng.between(1, 4) {
         let (place, _) = rng.pick(&all);
@@ -2509,8 +2498,7 @@ pub fn check_case(seed: u64) -> (Vec<u8>, Expected) {
     let mut rng = Rng::new(seed ^ 0xc4ec);
     let inner = rng.next();
     match rng.below(10) {
-        0 | 1 => (good(inner), Some(None)),
-        2 => (settled(inner), Some(None)),
+        0..=2 => (good(inner), Some(None)),
         3 | 4 => {
             let number = rng.between(10, 14) as u8;
             let (table, place) = spoiled(number, inner);

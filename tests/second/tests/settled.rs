@@ -40,6 +40,29 @@ fn accepted_since(text: &str, number: u8, place: usize, without: usize) {
     refused(&text.replace("init\n", ""), number, without);
 }
 
+const GAUGE_PROTECT: &str = include_str!("../../examples/gauge-protect.txt");
+const GAUGE_INIT: &str = include_str!("../../examples/gauge-init.txt");
+
+#[test]
+fn the_files_belong_together() {
+    for &(text, table) in &[
+        (GAUGE_PROTECT, &include_bytes!("../../examples/gauge-protect.table")[..]),
+        (GAUGE_INIT, &include_bytes!("../../examples/gauge-init.table")[..]),
+    ] {
+        assert_eq!(asm(text), table);
+    }
+}
+
+/// "our writers add PROTECTs that do nothing": what they had to write, and the same without.
+#[test]
+fn a_gauge_without_its_protects() {
+    accepted(GAUGE_PROTECT);
+    assert_eq!(before(GAUGE_PROTECT), Ok(1));
+    accepted(GAUGE_INIT);
+    assert_eq!(before(GAUGE_INIT), Err(Fault { number: 10, place: 42 }));
+    assert_eq!(asm(&GAUGE_PROTECT.replace("protect r0 r0\n", "")), asm(GAUGE_INIT));
+}
+
 /// A function from 27 on, with 3 registers and two arrays of 4 words, given their
 /// levels on the way in.
 fn function(levels: &str, code: &str) -> String {
@@ -336,7 +359,7 @@ fn tables_that_passed_before_still_pass() {
     };
     for seed in 0..4_000 {
         look(&gen::good(seed), seed);
-        look(&gen::settled(seed), seed);
+        look(&gen::by_rules(Rules::InitKeepsArrays, seed), seed);
         look(&gen::altered(seed), seed);
         look(&gen::mutated(seed), seed);
         look(&gen::spoiled(10 + (seed % 5) as u8, seed).0, seed);

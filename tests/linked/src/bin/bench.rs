@@ -4,7 +4,7 @@
 
 use linked::sides::{Rattle, Second, Side};
 use linked::{stack, tables};
-use second::gen::{self, Rng, RunCase, Style};
+use second::gen::{self, Rng, Rules, RunCase, Style};
 use second::{table, Outcome, Verdict};
 use std::time::{Duration, Instant};
 
@@ -201,7 +201,7 @@ fn checks(plan: &Plan, sized: &[(usize, Vec<Vec<u8>>)]) {
         ours.push((bytes as f64, times.rattle));
         theirs.push((bytes as f64, times.second));
     }
-    let padded = gen::padded(gen::good(1), 32 * KB);
+    let padded = gen::padded(gen::by_rules(Rules::InitKeepsArrays, 1), 32 * KB);
     for (name, table) in [
         ("straight code, 32 KB", tables::straight(32 * KB)),
         ("fixed accesses, 32 KB", tables::fixed(32 * KB)),

@@ -65,14 +65,14 @@ fn judged(tally: &mut Tally, table: &[u8], seed: u64) -> Verdict {
     verdict
 }
 
-/// Tables that must pass, and the records in them.
-fn passing(tally: &mut Tally, name: &str, of: fn(u64) -> Vec<u8>, seeds: Range<u64>) {
+/// Good tables, which must pass, and the records in them.
+fn passing(tally: &mut Tally, seeds: Range<u64>) {
     let mut instrs = 0u64;
     let mut bytes = 0u64;
     for seed in seeds.clone() {
-        let table = of(seed);
+        let table = gen::good(seed);
         let verdict = judged(tally, &table, seed);
-        tally.must(matches!(verdict, Verdict::Accepted { .. }), name, seed);
+        tally.must(matches!(verdict, Verdict::Accepted { .. }), "good", seed);
         if let Ok(read) = table::read(&table) {
             bytes += table.len() as u64;
             for (_, instr) in read.instrs() {
@@ -87,14 +87,14 @@ fn passing(tally: &mut Tally, name: &str, of: fn(u64) -> Vec<u8>, seeds: Range<u
         }
     }
     let count = seeds.end - seeds.start;
-    println!("{} {} tables, {} bytes, {} instructions", count, name, bytes, instrs);
-    tally.report(&format!("verdicts on and records in {} tables", name));
+    println!("{} good tables, {} bytes, {} instructions", count, bytes, instrs);
+    tally.report("verdicts on and records in good tables");
 }
 
 /// Two runs with different secrets under one list.
-fn paired(tally: &mut Tally, name: &str, of: fn(u64) -> Vec<u8>, seeds: Range<u64>) {
+fn paired(tally: &mut Tally, seeds: Range<u64>) {
     for seed in seeds {
-        let table = of(seed);
+        let table = gen::good(seed);
         let mut rng = Rng::new(seed ^ 0x2222);
         for _ in 0..PAIRS {
             let pair = pairs::pair(&table, &mut rng);
@@ -120,7 +120,7 @@ fn paired(tally: &mut Tally, name: &str, of: fn(u64) -> Vec<u8>, seeds: Range<u6
             }
         }
     }
-    tally.report(&format!("pairs of runs of {} tables", name));
+    tally.report("pairs of runs of good tables");
 }
 
 /// Counts a table, whether it is refused, and whether runs of it leak.
@@ -147,8 +147,7 @@ fn main() {
     let count: u64 = arguments.next().unwrap_or(2_000);
     let mut tally = Tally::default();
 
-    passing(&mut tally, "good", gen::good, start..start + count);
-    passing(&mut tally, "settled", gen::settled, start..start + count);
+    passing(&mut tally, start..start + count);
 
     for number in 10..=14 {
         for seed in start..start + count {
@@ -217,8 +216,7 @@ fn main() {
     }
     tally.report("runs");
 
-    paired(&mut tally, "good", gen::good, start..start + count);
-    paired(&mut tally, "settled", gen::settled, start..start + count);
+    paired(&mut tally, start..start + count);
 
     // The same with tables that do not type, or type by wrong rules: some must
     // be seen to leak, or the comparison shows nothing.
