@@ -106,7 +106,7 @@ module _ (t : Table) where
   fits-at : (p : ℕ) (i : Record) → t .rec p ≡ i → Fits (t .registers) (t .arrays) i
   fits-at p i e = subst (Fits (t .registers) (t .arrays)) e (t .fits p)
 
-  -- beside a rule that leaves no slot lower than 01's does
+  -- beside a rule that leaves no slot lower than `after` does
   module _ (rule : Simple → Env → Env) (higher : (s : Simple) (F : Env) → In (after (t .arrays) s F) (rule s F)) where
     after-of-below : (i : Record) (E F : Env) → Fits (t .registers) (t .arrays) i → In E F → In (afterOf t i E) (afterBy t rule i F)
     after-of-below (Do s) E F f w = within-trans (t .registers) (t .arrays) _ _ _ (after-mono (t .registers) (t .arrays) E F w s f) (higher s F)
@@ -118,7 +118,7 @@ module _ (t : Table) where
     after-of-below (Endwhile e) E F f w = w
     after-of-below Return E F f w = w
 
-    -- what that rule types from F, 01's types from any E within it, and ends within where that rule ends
+    -- what that rule types from F, `typing` types from any E within it, and ends within where that rule ends
     pub types-below : {g p q : ℕ} {F F′ : Env} (E : Env) → In E F → Types t (typingBy t rule) g p F q F′ → (E′ : Env) × Types t (typing t) g p E q E′ × In E′ F′
     types-below E w done = (E, done, w)
     types-below E w (one {p = p} {E = F} i n d) =
@@ -130,11 +130,11 @@ module _ (t : Table) where
         let z = types-below (join (x .0) (y .0)) (join-mono (t .registers) (t .arrays) (x .0) (y .0) F₁ F₂ (x .2) (y .2)) c in
         (z .0, branch i (public-down (t .registers) (t .arrays) E F w r (fits-at p (If r e) i) g) (x .1) j (y .1) k (z .1), z .2)
     types-below E w (loop {E = F} {L = L} i v g a j u c) =
-        let x = types-below (guarded (envOf L) _ true) (within-refl (t .registers) (t .arrays) _) a in
-        let z = types-below (guarded (envOf L) _ false) (within-refl (t .registers) (t .arrays) _) c in
+        let x = types-below _ (within-refl (t .registers) (t .arrays) _) a in
+        let z = types-below _ (within-refl (t .registers) (t .arrays) _) c in
         (z .0, loop i (within-trans (t .registers) (t .arrays) E F (envOf L) w v) g (x .1) j (within-trans (t .registers) (t .arrays) _ _ (envOf L) (x .2) u) (z .1), z .2)
 
-    -- whatever function that rule types, 01's types
+    -- whatever function that rule types, `typing` types
     pub function-below : (f : ℕ) → TypesFunction t (typingBy t rule) f → TypesFunction t (typing t) f
     function-below f d =
         let x = types-below (t .enter f) (within-refl (t .registers) (t .arrays) _) (d .body) in

@@ -7,7 +7,7 @@ use native.Mathlib.Nat.{le-refl}
 use mathlib.Core.Path.{_≡_, refl, sym, ap, subst, _∙_}
 use mathlib.Core.Logic.{_↔_}
 use mathlib.Core.Bool.{Bool, true, false, true≢false}
-use Rattle.model.specs.Tests.{pick, Decides, test, pick-ind}
+use Rattle.model.specs.Tests.{pick, Decides, pick-ind}
 use Rattle.model.specs.Records.{lengthOf, length-pos, Single, Closes}
 use Rattle.model.specs.Table.{Table}
 use Rattle.model.specs.Blocks.{Rules, Types, done, one, branch, loop, TypesFunction}

@@ -152,7 +152,7 @@ typingBy t rule = record {
   leave = t .leave;
 }
 
--- document 01's rules
+-- document 01's rules, as the orders amend them
 abbrev pub typing : Table → Rules
 typing t = typingBy t (after (t .arrays))
 

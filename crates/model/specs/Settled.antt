@@ -11,7 +11,7 @@ use Rattle.model.specs.Rules.{settle, after}
 use Rattle.model.specs.declared.Simple.the-variants.{Init}
 
 -- a settled level is 0, or the level itself, which is then secret
-pub settle-ind : (l : ℕ) (P : ℕ → Type 0) → (l ≤ 1 → P 0) → (2 ≤ l → P l) → P (settle l)
+settle-ind : (l : ℕ) (P : ℕ → Type 0) → (l ≤ 1 → P 0) → (2 ≤ l → P l) → P (settle l)
 unfolding settle
 settle-ind l P f g = test (leb l 1) (λ b. P (pick b 0 l)) (λ e. f (leb→le l 1 (rw e tt))) (λ e. g (omega (arith, over e)))
   where

@@ -9,7 +9,7 @@ use Rattle.model.specs.Tests.{below}
 use Rattle.model.specs.Levels.{Env, joinStatus, sameStatus, within, within-is}
 use Rattle.model.specs.Packing.{slot, levelsIn, packedIn}
 use Rattle.model.specs.Table.{Table}
-use Rattle.model.specs.Blocks.{TypesFunction, Types, done, one}
+use Rattle.model.specs.Blocks.{TypesFunction, done, one}
 use Rattle.model.specs.Rules.{kill, guardStatus, callStatus, settle, beside}
 use Rattle.model.specs.Before.{typingBefore}
 use Rattle.model.specs.Faults.{FirstFault, inside, past, fails}

@@ -19,8 +19,6 @@ use Rattle.model.specs.Sites.{scan, homeOf}
 use Rattle.model.specs.Machine.{operate, access, step, run}
 use Rattle.model.specs.declared.Simple.{Simple}
 use Rattle.model.specs.declared.Simple.the-variants.{Const, Op, Select, Load, Store, Init, Update, Protect, LoadFixed, StoreFixed}
-use Rattle.model.specs.declared.Record.{Record}
-use Rattle.model.specs.declared.Record.the-variants.{Do, Call, If, Else, Endif, While, Endwhile, Return}
 use Rattle.format.specs.Format.{rowAt, decodeAt, wordsFrom}
 use Rattle.format.specs.Head.{sizesAt, arrayAt, signatureAt, arraysAt, signaturesAt}
 use Rattle.format.specs.Layout.{recordOf, returnOf, tableOf}

@@ -8,7 +8,7 @@
 //!   place that is due; [`mutated`]: good tables with a few bytes changed;
 //!   [`altered`]: with a few fields changed within their ranges, so that they
 //!   read; [`random`]: bytes by chance.
-//! * [`by_rules`]: tables that type by wrong rules; [`check_by`]: whether one does.
+//! * [`by_rules`]: tables that type by other rules; [`check_by`]: whether one does.
 //! * [`directives`]: lists that follow the right path, or speculate at every
 //!   chance, or go wrong; [`damaged_directives`]: lists that fail with 16.
 //! * [`check_case`], [`run_case`]: a mixture of all of these.

@@ -41,7 +41,8 @@ fn good_tables_pass() {
                 (12, Some((Instr::While { .. }, _))) => 1,
                 (12, _) => 2,
                 (13, _) => 3,
-                _ => 4,
+                (14, _) => 4,
+                _ => panic!("{:?} {}", fault, seed),
             };
             refused[way] += 1;
         }
