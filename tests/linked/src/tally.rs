@@ -17,6 +17,12 @@ const DUE_IN_RUNS: &[u8] = &[1, 2, 3, 4, 5, 6, 7, 8, 9, 15, 16, 20, 21, 22, 23, 
 /// How often each number came up.
 type Counts = BTreeMap<u8, u64>;
 
+fn add_counts(to: &mut Counts, from: &Counts) {
+    for (number, count) in from {
+        *to.entry(*number).or_default() += count;
+    }
+}
+
 #[derive(Default)]
 pub struct Tally {
     pub cases: u64,
@@ -62,6 +68,24 @@ impl Tally {
                 }
             }
         }
+    }
+
+    /// Counts what another tally has counted.
+    pub fn add(&mut self, other: &Tally) {
+        self.cases += other.cases;
+        for (sort, (cases, numbers)) in &other.sorts {
+            let here = self.sorts.entry(sort).or_default();
+            here.0 += cases;
+            add_counts(&mut here.1, numbers);
+        }
+        add_counts(&mut self.checks, &other.checks);
+        add_counts(&mut self.kinds, &other.kinds);
+        add_counts(&mut self.runs, &other.runs);
+        self.steps += other.steps;
+        self.misspeculating += other.misspeculating;
+        self.masked += other.masked;
+        self.pairs_with_other_secrets += other.pairs_with_other_secrets;
+        self.pairs_told_apart += other.pairs_told_apart;
     }
 
     fn ran(&mut self, sort: &'static str, after: &After) {

@@ -11,9 +11,11 @@ use linked::sorts::SORTS;
 use linked::tally::Tally;
 use std::panic::{catch_unwind, AssertUnwindSafe};
 use std::process::exit;
+use std::sync::atomic::{AtomicU64, Ordering::Relaxed};
+use std::thread::{available_parallelism, scope};
 use std::time::{Duration, Instant};
 
-/// The rounds of `quick`: two minutes on one core of 2026.
+/// The rounds of `quick`: a minute on two cores of 2026.
 const QUICK_ROUNDS: u64 = 24_000;
 const BETWEEN_LINES: Duration = Duration::from_secs(5);
 const SAVED: &str = concat!(env!("CARGO_MANIFEST_DIR"), "/../../target/failed-case.txt");
@@ -102,30 +104,63 @@ fn compare_round(seed: u64, error: Option<Error>, tally: &mut Tally) {
     }
 }
 
+/// What the workers share: the next seed, and how many cases were alike so far.
+struct Shared {
+    next: AtomicU64,
+    cases: AtomicU64,
+    start: Instant,
+}
+
+/// One worker's part: a seed at a time, until there are no more or the time is over. The teller says now and then how far all are.
+fn work(plan: &Plan, shared: &Shared, teller: bool) -> Tally {
+    let mut tally = Tally::default();
+    let mut told = shared.start;
+    while plan.end.map_or(true, |end| shared.start.elapsed() < end) {
+        let seed = shared.next.fetch_add(1, Relaxed);
+        if plan.rounds.map_or(false, |rounds| seed >= plan.seed + rounds) {
+            break;
+        }
+        let before = tally.cases;
+        compare_round(seed, plan.error, &mut tally);
+        let cases = shared.cases.fetch_add(tally.cases - before, Relaxed);
+        if teller && told.elapsed() > BETWEEN_LINES {
+            told = Instant::now();
+            let seconds = shared.start.elapsed().as_secs();
+            eprintln!("{} cases alike, seed {}, {} s", cases, seed, seconds);
+        }
+    }
+    tally
+}
+
+/// A worker for each processor. Which of them takes a seed changes nothing in what is counted.
+fn compare_all(plan: &Plan, shared: &Shared) -> Tally {
+    let workers = available_parallelism().map_or(1, |number| number.get());
+    scope(|threads| {
+        let others: Vec<_> =
+            (1..workers).map(|_| threads.spawn(|| work(plan, shared, false))).collect();
+        let mut tally = work(plan, shared, true);
+        for other in others {
+            tally.add(&other.join().expect("a panic is met in its case"));
+        }
+        tally
+    })
+}
+
 fn main() {
     let arguments: Vec<String> = std::env::args().skip(1).collect();
     let plan = plan_of(&arguments);
-    let mut tally = Tally::default();
-    let start = Instant::now();
-    let mut told = start;
-    let mut seed = plan.seed;
-    while plan.rounds.map_or(true, |rounds| seed < plan.seed + rounds)
-        && plan.end.map_or(true, |end| start.elapsed() < end)
-    {
-        compare_round(seed, plan.error, &mut tally);
-        seed += 1;
-        if told.elapsed() > BETWEEN_LINES {
-            told = Instant::now();
-            let seconds = start.elapsed().as_secs();
-            eprintln!("{} cases alike, seed {}, {} s", tally.cases, seed, seconds);
-        }
-    }
+    let shared =
+        Shared { next: AtomicU64::new(plan.seed), cases: AtomicU64::new(0), start: Instant::now() };
+    let tally = compare_all(&plan, &shared);
     print!("{}", tally);
     let missing = tally.missing();
     if !missing.is_empty() {
         println!("NEVER CAME UP: {}", missing.join(", "));
         exit(1);
     }
-    let seconds = start.elapsed().as_secs();
-    println!("{} cases alike, seeds {} to {}, {} s", tally.cases, plan.seed, seed - 1, seconds);
+    // Past the last round each worker took one seed more, and left it.
+    let taken = shared.next.load(Relaxed);
+    let end = plan.rounds.map_or(taken, |rounds| plan.seed + rounds);
+    let seconds = shared.start.elapsed().as_secs();
+    println!("{} cases alike, seeds {} to {}, {} s", tally.cases, plan.seed, end - 1, seconds);
 }
