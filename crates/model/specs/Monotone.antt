@@ -10,7 +10,7 @@ use Rattle.model.specs.Levels.{Env, Covers, Within, join, within-refl, w
 use Rattle.model.specs.Records.{SimpleFits, Fits}
 use Rattle.model.specs.Packing.{envOf}
 use Rattle.model.specs.Table.{Table}
-use Rattle.model.specs.Rules.{kill, guardStatus, settle, written, raised, guarded, spilled, beside, Needs, after, NeedsOf, afterBy, afterOf, typingBy, typing}
+use Rattle.model.specs.Rules.{kill, guardStatus, settle, written, raised, guarded, spilled, beside, Needs, after, NeedsOf, returned, afterBy, afterOf, typingBy, typing}
 use Rattle.model.specs.Settled.{settle-mono}
 use Rattle.model.specs.Blocks.{Types, done, one, branch, loop, TypesFunction}
 use Rattle.model.specs.declared.Status.{Status}
@@ -53,6 +53,10 @@ module _ (n m : ℕ) (E F : Env) (w : Within n m E F) where
 
   guarded-mono : (r : ℕ) (s : Bool) → Within n m (guarded E r s) (guarded F r s)
   guarded-mono r s = record { status = guard-mono r s (E .status) (F .status) (w .status); regs = w .regs; arrays = w .arrays }
+
+  -- (today a CALL leaves nothing of what the caller had: order 8 will)
+  returned-mono : (out : Env) (mark : Bool) → Within n m (returned out mark E) (returned out mark F)
+  returned-mono out mark = record { status = within-refl n m (returned out mark E) .status; regs = λ i l. omega (arith, w .regs i l); arrays = λ a l. le-refl _ }
 
   pub public-down : (i : ℕ) → i < n → F .regs i ≡ 0 → E .regs i ≡ 0
   public-down i l h = omega (arith, w .regs i l)
@@ -110,7 +114,7 @@ module _ (t : Table) where
   module _ (rule : Simple → Env → Env) (higher : (s : Simple) (F : Env) → In (after (t .arrays) s F) (rule s F)) where
     after-of-below : (i : Record) (E F : Env) → Fits (t .registers) (t .arrays) i → In E F → In (afterOf t i E) (afterBy t rule i F)
     after-of-below (Do s) E F f w = within-trans (t .registers) (t .arrays) _ _ _ (after-mono (t .registers) (t .arrays) E F w s f) (higher s F)
-    after-of-below (Call g m) E F f w = within-refl (t .registers) (t .arrays) _
+    after-of-below (Call g m) E F f w = returned-mono (t .registers) (t .arrays) E F w (t .leave g) m
     after-of-below (If r e) E F f w = w
     after-of-below (Else n) E F f w = w
     after-of-below Endif E F f w = w

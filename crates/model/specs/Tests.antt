@@ -50,6 +50,11 @@ pub pick-ind : {A : Type 0} (P : A → Type 0) (b : Bool) {x y : A} → (b ≡ t
 pick-ind P true h k = h refl
 pick-ind P false h k = k refl
 
+-- two equal answers need no test
+pub pick-same : {A : Type 0} (b : Bool) (x : A) → pick b x x ≡ x
+pick-same true x = refl
+pick-same false x = refl
+
 pub below-all : (n : ℕ) (p : ℕ → Bool) → below n p ≡ true → (i : ℕ) → i < n → p i ≡ true
 unfolding below
 below-all zero p h i l = absurd (omega arith)

@@ -1,5 +1,8 @@
+use Prim.Native.Nat.{_≤_}
+use native.Mathlib.Omega.{arith}
 use mathlib.Core.Path.{sym, _∙_}
 use borrow.Author.Tests.{lt-ltb, le-ltb}
+use Rattle.model.specs.Tests.{pick-same}
 use Rattle.model.specs.Packing.{packedIn}
 use Rattle.format.proofs.Laws.{pick-self}
 use borrow.Author.Needs.{needs}
@@ -12,7 +15,7 @@ use Rattle.format.proofs.levels_in.Reads as levels-in-reads
 returns : tie.Need-returns
 unfolding packedIn
 returns c =
-    let h1 = c .if1 .taken in
+    let h1 : 2 ≤ c .before .before .args .e .status = omega (arith, c .if1 .taken) in
     simp le-ltb
 
 levels-in-requires : tie.Need-levels-in-requires
@@ -31,9 +34,8 @@ returns-2 c =
 returns-3 : tie.Need-returns-3
 unfolding packedIn
 returns-3 c =
-    let h1 = c .before .before .if1 .left in
     let e = sym (c .before .levels-in .ensures) ∙ c .if2 .left in
-    simp (e, lt-ltb)
+    simp (e, pick-same)
 
 pub packed-in-spec : {M : Type 1} → statement M
 packed-in-spec =

@@ -1,3 +1,7 @@
+use Prim.Native.Nat.{_+_, _<_}
+use native.Mathlib.Omega.{arith}
+use Rattle.model.specs.Tests.{pick-same}
+use Rattle.format.specs.Format.{word16}
 use Rattle.format.specs.Head.{arrayAt}
 use borrow.Author.Tests.{lt-ltb, le-ltb, le-leb, lt-leb, eq-eqb, ne-eqb}
 use borrow.Author.Needs.{needs}
@@ -52,12 +56,12 @@ returns-4 c =
 returns-5 : tie.Need-returns-5
 unfolding arrayAt
 returns-5 c =
-    let h1 = simp (c .before .before .place-at .ensures .0) at (c .if5 .taken) in
-    let h2 = simp (c .before .before .place-at .ensures .0) at (c .before .if4 .left) in
+    let a = c .before .before .before .before .before .before .before .before .args in
+    let h1 : 1024 < word16 (a .t .now) (a .at + 1) = omega (arith, c .before .before .place-at .ensures .0, c .if5 .taken) in
     let h3 = c .before .before .before .if3 .left in
     let h4 = c .before .before .before .before .if2 .left in
     let h5 = c .before .before .before .before .before .before .if1 .left in
-    simp (c .before .before .place-at .ensures .0, lt-ltb, le-ltb, le-leb, lt-leb, eq-eqb, ne-eqb)
+    simp (lt-ltb, le-ltb, le-leb, lt-leb, eq-eqb, ne-eqb, pick-same)
 
 add-t4 : tie.Need-add-t4
 add-t4 c = search needs

@@ -1,3 +1,7 @@
+use Rattle.model.specs.Tests.{pick-same}
+use Prim.Native.Nat.{_+_, _<_}
+use native.Mathlib.Omega.{arith}
+use Rattle.format.specs.Format.{byte}
 use Rattle.format.specs.Head.{sizesAt}
 use borrow.Author.Tests.{lt-ltb, le-ltb, le-leb, lt-leb, eq-eqb, ne-eqb}
 use borrow.Author.Needs.{needs}
@@ -63,48 +67,40 @@ returns-4 c =
 returns-5 : tie.Need-returns-5
 unfolding sizesAt
 returns-5 c =
-    let h1 = c .if5 .taken in
-    let h2 = c .before .if4 .left in
+    let a = c .before .before .before .before .before .before .before .before .before .args in
+    let h1 : 16 < byte (a .t .now) (a .at + 1) = omega (arith, c .if5 .taken) in
     let h3 = c .before .before .before .before .before .if3 .left in
     let h4 = c .before .before .before .before .before .before .if2 .left in
     let h5 = c .before .before .before .before .before .before .before .before .if1 .left in
-    simp (lt-ltb, le-ltb, le-leb, lt-leb, eq-eqb, ne-eqb)
+    simp (lt-ltb, le-ltb, le-leb, lt-leb, eq-eqb, ne-eqb, pick-same)
 
 returns-6 : tie.Need-returns-6
 unfolding sizesAt
 returns-6 c =
     let h1 = c .if6 .taken in
-    let h2 = c .before .if5 .left in
-    let h3 = c .before .before .if4 .left in
     let h4 = c .before .before .before .before .before .before .if3 .left in
     let h5 = c .before .before .before .before .before .before .before .if2 .left in
     let h6 = c .before .before .before .before .before .before .before .before .before .if1 .left in
-    simp (lt-ltb, le-ltb, le-leb, lt-leb, eq-eqb, ne-eqb)
+    simp (lt-ltb, le-ltb, le-leb, lt-leb, eq-eqb, ne-eqb, pick-same)
 
 returns-7 : tie.Need-returns-7
 unfolding sizesAt
 returns-7 c =
-    let h1 = c .if7 .taken in
-    let h2 = c .before .if6 .left in
-    let h3 = c .before .before .if5 .left in
-    let h4 = c .before .before .before .if4 .left in
+    let a = c .before .before .before .before .before .before .before .before .before .before .before .args in
+    let h1 : byte (a .t .now) (a .at + 3) < 1 = omega (arith, c .if7 .taken) in
     let h5 = c .before .before .before .before .before .before .before .if3 .left in
     let h6 = c .before .before .before .before .before .before .before .before .if2 .left in
     let h7 = c .before .before .before .before .before .before .before .before .before .before .if1 .left in
-    simp (lt-ltb, le-ltb, le-leb, lt-leb, eq-eqb, ne-eqb)
+    simp (lt-ltb, le-ltb, le-leb, lt-leb, eq-eqb, ne-eqb, pick-same)
 
 returns-8 : tie.Need-returns-8
 unfolding sizesAt
 returns-8 c =
     let h1 = c .if8 .taken in
-    let h2 = c .before .if7 .left in
-    let h3 = c .before .before .if6 .left in
-    let h4 = c .before .before .before .if5 .left in
-    let h5 = c .before .before .before .before .if4 .left in
     let h6 = c .before .before .before .before .before .before .before .before .if3 .left in
     let h7 = c .before .before .before .before .before .before .before .before .before .if2 .left in
     let h8 = c .before .before .before .before .before .before .before .before .before .before .before .if1 .left in
-    simp (lt-ltb, le-ltb, le-leb, lt-leb, eq-eqb, ne-eqb)
+    simp (lt-ltb, le-ltb, le-leb, lt-leb, eq-eqb, ne-eqb, pick-same)
 
 add-t10 : tie.Need-add-t10
 add-t10 c = search needs

@@ -1,3 +1,6 @@
+use Prim.Native.Nat.{_<_}
+use native.Mathlib.Omega.{arith}
+use lib.ListN.{length}
 use mathlib.Core.Path.{sym, _∙_}
 use borrow.Author.Tests.{lt-ltb, le-ltb}
 use Rattle.reading.specs.Reading.{readAt}
@@ -12,7 +15,7 @@ use Rattle.reading.proofs.parts.Reads as parts-reads
 returns : tie.Need-returns
 unfolding readAt
 returns c =
-    let h = c .if1 .taken in
+    let h : 32768 < length (c .before .before .args .t .now) = omega (arith, c .if1 .taken) in
     simp lt-ltb
 
 sizes-of-requires : tie.Need-sizes-of-requires

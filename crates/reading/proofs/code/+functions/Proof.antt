@@ -1,4 +1,6 @@
-use mathlib.Core.Path.{sym, _∙_}
+use native.Mathlib.Omega.{arith}
+use lib.ListN.{length}
+use mathlib.Core.Path.{_≡_, sym, _∙_}
 use borrow.Author.Tests.{eq-eqb, ne-eqb}
 use borrow.Author.Needs.{needs}
 use Rattle.reading.specs.Reading.{functionsAt}
@@ -47,7 +49,8 @@ functions-returns-2 : (t : ℕ) → functions-lts.Need-returns-2 (
 ) (functions-at t) functions.Post
 unfolding functionsAt
 functions-returns-2 t c =
-    let h = c .if2 .left in
+    let a = c .before .before .before .args in
+    let h : a .at ≡ length (a .t .now) → ⊥ = λ e. omega (arith, c .if2 .left, e) in
     simp (c .before .if1 .taken, ne-eqb)
 
 functions-less-requires : (t : ℕ) → functions-lts.Need-less-requires (

@@ -1,3 +1,5 @@
+use Prim.Native.Nat.{_≤_}
+use native.Mathlib.Omega.{arith}
 use borrow.Author.Tests.{lt-ltb, le-ltb}
 use Rattle.reading.specs.Reading.{callAt}
 use Rattle.reading.proofs.code.call_at.Statement.{statement}
@@ -14,7 +16,8 @@ returns c =
 returns-2 : tie.Need-returns-2
 unfolding callAt
 returns-2 c =
-    let h1 = c .if1 .left in
+    let a = c .before .args in
+    let h1 : a .cur ≤ a .function = omega (arith, c .if1 .left) in
     simp le-ltb
 
 pub call-at-spec : {M : Type 1} → statement M
