@@ -10,7 +10,7 @@
 //! * [`asm`]: tables as text and back.
 //! * [`gen`]: seeded tables, directive lists and cases.
 //! * [`pairs`]: two runs with different secrets.
-//! * [`text`]: cases and results as lines.
+//! * [`text`]: tables, words and runs as lines.
 //!
 //! Orders 1 and 3 of `02-change-requests.md` (02) are built too: LOAD FIXED and
 //! STORE FIXED, kinds 1B and 1C, and INIT settling arrays. (Order 2 changes no

@@ -1,19 +1,12 @@
-//! Cases and their results as lines of text, so that another implementation can
-//! be held against this one.
+//! Tables, words and runs as text, in one line each, so that a case can be kept
+//! and tried again.
 //!
-//! A check's case is the table in hexadecimal; its result is the check program's
-//! line, then `shows SLICE OFFSET LENGTH` for the message. A run's case is table,
-//! registers, memory, directives and observations (as lent), with blanks
-//! between; its result is
-//! `refused N at P` or `stopped N at P steps S misspeculating M masked K`, then
-//! registers, memory, observations (as left) and `shows SLICE OFFSET LENGTH`.
-//! Words are decimal with commas between; empty is `-`. A file has lines
-//! `CASE => RESULT`.
+//! A table is hexadecimal. A run is table, registers, memory, directives and
+//! observations (as lent), with blanks between. Words are decimal with commas
+//! between; empty is `-`.
 
 use crate::gen::RunCase;
-use crate::message::{self, Part, Slice};
-use crate::{check, line, run, Outcome};
-use std::fmt::Write;
+use crate::message::{Part, Slice};
 
 pub fn hex(bytes: &[u8]) -> String {
     const DIGITS: &[u8; 16] = b"0123456789abcdef";
@@ -65,13 +58,6 @@ pub fn shows(part: Part) -> String {
     format!("shows {} {} {}", slice, part.offset, part.length)
 }
 
-/// The result of checking a table.
-pub fn check_result(table: &[u8]) -> String {
-    let verdict = check(table);
-    let part = message::of_verdict(&verdict, table);
-    format!("{} {}", line(&verdict), shows(part))
-}
-
 pub fn run_text(case: &RunCase) -> String {
     format!(
         "{} {} {} {} {}",
@@ -92,39 +78,4 @@ pub fn parse_run(text: &str) -> Option<RunCase> {
         directives: unhex(fields.next()?)?,
         observations: unhex(fields.next()?)?,
     })
-}
-
-/// The result of a run.
-pub fn run_result(case: &RunCase) -> String {
-    let mut after = case.clone();
-    let outcome = run(
-        &case.table,
-        &mut after.registers,
-        &mut after.memory,
-        &case.directives,
-        &mut after.observations,
-    );
-    let mut text = String::new();
-    let written = match outcome {
-        Outcome::Refused { number, place } => write!(text, "refused {} at {}", number, place),
-        Outcome::Stopped { number, place, steps, misspeculating, masked } => write!(
-            text,
-            "stopped {} at {} steps {} misspeculating {} masked {}",
-            number,
-            place,
-            steps,
-            u8::from(misspeculating),
-            u8::from(masked)
-        ),
-    };
-    written.expect("a String takes all");
-    let part = message::of_outcome(&outcome, &case.table, &case.directives);
-    format!(
-        "{} {} {} {} {}",
-        text,
-        words(&after.registers),
-        words(&after.memory),
-        hex(&after.observations),
-        shows(part)
-    )
 }
