@@ -2,9 +2,10 @@
 
 use crate::answer::{After, Answer, Difference};
 use crate::case::Case;
+use likunjavo_text::disassemble;
 use second::gen::RunCase;
 use second::machine::Directive;
-use second::{asm, line, text, Outcome};
+use second::{line, text, Outcome};
 use std::fmt::Write;
 
 /// Longer cases are not put on a command line.
@@ -29,7 +30,7 @@ pub fn report(case: &Case, difference: &Difference, replay: &str, saved: &str) -
 pub fn case_text(case: &Case) -> String {
     let mut out = String::new();
     let _ = writeln!(out, "The table, {} bytes:\n", case.table().len());
-    for row in asm::disassemble(case.table()).lines() {
+    for row in disassemble(case.table()).lines() {
         let _ = writeln!(out, "    {}", row);
     }
     match case {

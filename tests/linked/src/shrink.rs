@@ -1,9 +1,10 @@
 //! A smaller case that still fails: less of the list, of the table, of the words and of the room.
 
 use crate::case::Case;
+use likunjavo_text::{assemble, disassemble};
 use second::gen::RunCase;
 use second::machine::Directive;
-use second::{asm, table};
+use second::table;
 use std::time::{Duration, Instant};
 
 /// Shrinking ends here, however much smaller the case might still get.
@@ -257,7 +258,7 @@ fn directives_of(list: &[u8]) -> Vec<Vec<u8>> {
 
 /// The table's records as text, without the places that they name: assembled, they name the right ones.
 fn lines_of(case: &Case) -> Vec<String> {
-    let text = asm::disassemble(case.table());
+    let text = disassemble(case.table());
     let records = text.lines().map(|line| {
         let end = line.find(&[';', '@'][..]).unwrap_or(line.len());
         line[..end].trim().to_string()
@@ -266,7 +267,7 @@ fn lines_of(case: &Case) -> Vec<String> {
 }
 
 fn with_lines(case: &Case, lines: &[String]) -> Option<Case> {
-    let bytes = asm::assemble(&lines.join("\n")).ok()?;
+    let bytes = assemble(&lines.join("\n")).ok()?;
     Some(with_table(case, bytes))
 }
 

@@ -1,6 +1,6 @@
 //! Tables of a wanted size and shape, written as text, and runs of them.
 
-use second::asm;
+use likunjavo_text::assemble;
 use second::gen::{self, Rng, Rules, RunCase, Shape};
 use second::machine::{kind, Directive, MAX_DIRECTIVES};
 use second::{check, Verdict};
@@ -31,7 +31,7 @@ pub fn generated(bytes: usize, count: usize, rng: &mut Rng) -> Vec<Vec<u8>> {
 
 /// Assembles a text that must make a table that passes.
 fn passing(text: &str) -> Vec<u8> {
-    let table = asm::assemble(text).expect("the text assembles");
+    let table = assemble(text).expect("the text assembles");
     assert!(matches!(check(&table), Verdict::Accepted { .. }), "{:?}", check(&table));
     table
 }
@@ -39,7 +39,7 @@ fn passing(text: &str) -> Vec<u8> {
 /// Repeats `phrase` between `before` and `after` as often as it fits into so many bytes.
 fn filled(before: &str, phrase: &str, after: &str, bytes: usize) -> Vec<u8> {
     let length = |times: usize| {
-        asm::assemble(&[before, &phrase.repeat(times), after].concat())
+        assemble(&[before, &phrase.repeat(times), after].concat())
             .map_or(0, |table| table.len())
     };
     let each = length(2) - length(1);

@@ -1,10 +1,17 @@
 //! Text and back.
 
-mod common;
-
-use common::{asm, hex, table_a, table_b};
-use second::asm::{assemble, disassemble};
+use likunjavo_text::{assemble, disassemble};
 use second::gen;
+
+/// Bytes from hexadecimal text.
+fn hex(text: &str) -> Vec<u8> {
+    let byte = |word| u8::from_str_radix(word, 16).expect("two digits");
+    text.split_whitespace().map(byte).collect()
+}
+
+fn asm(text: &str) -> Vec<u8> {
+    assemble(text).expect("the text assembles")
+}
 
 #[test]
 fn tables_a_and_b_as_text() {
@@ -19,8 +26,11 @@ fn tables_a_and_b_as_text() {
              protect r0 r0
              load r1 a0[r0]
              return";
-    assert_eq!(asm(&format!("{}{}", head, a)), table_a());
-    assert_eq!(asm(&format!("{}{}", head, b)), table_b());
+    let head_bytes =
+        hex("01 02 01 01  02 04 00  03 18 00  00 00 00 00 00 00 00  00 0A 00 00 00 00 00");
+    let table = |code: &str| [&head_bytes[..], &hex(code)].concat();
+    assert_eq!(asm(&format!("{}{}", head, a)), table("13 00 00 01  13 01 00 00  25"));
+    assert_eq!(asm(&format!("{}{}", head, b)), table("15  13 00 00 01  17 00 00  13 01 00 00  25"));
 }
 
 #[test]
@@ -135,6 +145,9 @@ fn errors() {
         "jump r0",
         "const r0 4294967296",
         "hex 100",
+        "zeros",
+        "zeros 65536",
+        "zeros 1 1",
         "signature unknown P/ unknown P/",
         "while r0 unknown Q/",
         "while r0 unknown PPPPPPPPPPPPPPPPP/",
@@ -142,6 +155,15 @@ fn errors() {
         assert!(assemble(text).is_err(), "{}", text);
     }
     assert_eq!(assemble("init\n nothing"), Err("line 2: `nothing` is no record".to_string()));
+}
+
+/// Bytes that are no record, also before a record and between two.
+#[test]
+fn raw_bytes() {
+    assert_eq!(asm("zeros 3"), [0; 3]);
+    assert_eq!(asm("zeros 0"), []);
+    assert_eq!(asm("zeros 0x10"), [0; 16]);
+    assert_eq!(asm("hex ff 1\ninit\nzeros 2\nreturn"), hex("FF 01 15 00 00 25"));
 }
 
 /// A number in the brackets is a fixed index, a register the other kind.
