@@ -9,7 +9,6 @@
 //! * [`message`]: the bytes that a fault message shows.
 //! * [`gen`]: seeded tables, directive lists and cases.
 //! * [`pairs`]: two runs with different secrets.
-//! * [`text`]: tables, words and runs as lines.
 //!
 //! Orders 1 and 3 of `02-change-requests.md` (02) are built too: LOAD FIXED and
 //! STORE FIXED, kinds 1B and 1C, and INIT settling arrays. (Order 2 changes no
@@ -25,7 +24,6 @@ pub mod machine;
 pub mod message;
 pub mod pairs;
 pub mod table;
-pub mod text;
 pub mod typing;
 
 pub use machine::{run, Outcome};

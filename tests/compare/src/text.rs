@@ -5,8 +5,8 @@
 //! observations (as lent), with blanks between. Words are decimal with commas
 //! between; empty is `-`.
 
-use crate::gen::RunCase;
-use crate::message::{Part, Slice};
+use second::gen::RunCase;
+use second::message::{Part, Slice};
 
 pub fn hex(bytes: &[u8]) -> String {
     const DIGITS: &[u8; 16] = b"0123456789abcdef";

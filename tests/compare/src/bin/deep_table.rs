@@ -3,5 +3,5 @@
 use std::io::{self, Write};
 
 fn main() -> io::Result<()> {
-    io::stdout().write_all(&linked::tables::nested(32_768))
+    io::stdout().write_all(&compare::tables::nested(32_768))
 }

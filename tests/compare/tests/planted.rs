@@ -1,12 +1,12 @@
 //! Each planted error is found, made small, and found again from its text.
 
-use linked::answer::{compared, Difference};
-use linked::case::Case;
-use linked::planted::{sides, Error};
-use linked::report::report;
-use linked::shrink::shrunk;
-use linked::sides::{Rattle, Second, Side};
-use linked::sorts::SORTS;
+use compare::answer::{compared, Difference};
+use compare::case::Case;
+use compare::planted::{sides, Error};
+use compare::report::report;
+use compare::shrink::shrunk;
+use compare::sides::{Rattle, Second, Side};
+use compare::sorts::SORTS;
 
 /// More rounds than any of them needs.
 const ROUNDS: u64 = 300;

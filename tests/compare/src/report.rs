@@ -2,10 +2,11 @@
 
 use crate::answer::{After, Answer, Difference};
 use crate::case::Case;
+use crate::text;
 use likunjavo_text::disassemble;
 use second::gen::RunCase;
 use second::machine::Directive;
-use second::{line, text, Outcome};
+use second::{line, Outcome};
 use std::fmt::Write;
 
 /// Longer cases are not put on a command line.

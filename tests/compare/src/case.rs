@@ -1,4 +1,4 @@
-//! One case: what both sides are lent. As text it is one line, in the words of [`second::text`]:
+//! One case: what both sides are lent. As text it is one line, in the words of [`crate::text`]:
 //!
 //! ```text
 //! check TABLE
@@ -7,8 +7,8 @@
 //! pair TABLE REGISTERS MEMORY LIST OBSERVATIONS OTHER-REGISTERS OTHER-MEMORY
 //! ```
 
+use crate::text;
 use second::gen::RunCase;
-use second::text;
 
 #[derive(Clone, Debug, PartialEq, Eq)]
 pub enum Case {

@@ -1,23 +1,10 @@
-//! The wrapper, the tables of the benchmark, and the measure of the stack.
+//! What the archive answers to the examples, the tables of the benchmark, and the measure of the stack.
 
-use linked::answer::compared;
-use linked::case::Case;
-use linked::sides::{Rattle, Second};
-use linked::{stack, tables};
-use second::message::{Part, Slice};
-use second::{Outcome, Verdict};
-
-const PASSES: &[u8] = include_bytes!("../../examples/passes.table");
-const FAULT_10: &[u8] = include_bytes!("../../examples/fault-10.table");
-
-#[test]
-fn checks_and_shows() {
-    assert_eq!(linked::check(PASSES), Verdict::Accepted { functions: 1, bytes: 37 });
-    assert_eq!(linked::check(FAULT_10), Verdict::Refused { number: 10, place: 28 });
-    let part = linked::shown(FAULT_10, &[], 10, 28);
-    assert_eq!(part, Part { slice: Slice::Table, offset: 28, length: 4 });
-    assert_eq!(linked::check(&[]), Verdict::Refused { number: 2, place: 0 });
-}
+use compare::answer::compared;
+use compare::case::Case;
+use compare::sides::{Rattle, Second};
+use compare::{stack, tables};
+use likunjavo::{Fault, Outcome, Stop, Verdict};
 
 /// Both implementations answer alike to every table of tests/examples.
 #[test]
@@ -42,15 +29,15 @@ fn the_examples_are_answered_alike() {
 fn hashes_with_round_constants() {
     let by_load = include_bytes!("../../examples/hash-load.table");
     let by_fixed = include_bytes!("../../examples/hash-fixed.table");
-    assert_eq!(linked::check(by_load), Verdict::Refused { number: 10, place: 49 });
-    assert_eq!(linked::check(by_fixed), Verdict::Accepted { functions: 1, bytes: 166 });
+    assert_eq!(likunjavo::check(by_load), Verdict::Refused { fault: Fault::NotPublic, place: 49 });
+    assert_eq!(likunjavo::check(by_fixed), Verdict::Accepted { functions: 1, bytes: 166 });
     let mut memory =
         [2, 0, 3, 1, 0x428a_2f98, 0x7137_4491, 0xb5c0_fbcf, 0xe9b5_dba5, 1, 2, 3, 4, 0];
     let (mut registers, mut observations) = ([0; 4], [0; 200]);
     let outcome =
-        linked::run(by_fixed, &mut registers, &mut memory, &[0x60; 27], &mut observations);
+        likunjavo::run(by_fixed, &mut registers, &mut memory, &[0x60; 27], &mut observations);
     let stopped = Outcome::Stopped {
-        number: 21,
+        stop: Stop::Returned,
         place: 165,
         steps: 27,
         misspeculating: false,
@@ -64,23 +51,29 @@ fn hashes_with_round_constants() {
     assert_eq!(memory[12], digest);
 }
 
-/// Document 02, order 3: the gauge passes with its PROTECTs, as before, and without them. Both sum what the channels name, and what they
-/// show does not depend on the readings.
+/// Document 02, order 3: the gauge passes with its PROTECTs, as before, and without them. Both sum what the channels
+/// name, and what they show does not depend on the readings.
 #[test]
 fn gauges_with_a_settled_array() {
     let by_protect = include_bytes!("../../examples/gauge-protect.table");
     let by_init = include_bytes!("../../examples/gauge-init.table");
-    assert_eq!(linked::check(by_protect), Verdict::Accepted { functions: 1, bytes: 77 });
-    assert_eq!(linked::check(by_init), Verdict::Accepted { functions: 1, bytes: 71 });
+    assert_eq!(likunjavo::check(by_protect), Verdict::Accepted { functions: 1, bytes: 77 });
+    assert_eq!(likunjavo::check(by_init), Verdict::Accepted { functions: 1, bytes: 71 });
     for (table, steps) in [(&by_protect[..], 11), (&by_init[..], 9)] {
         let summed = |readings: [u32; 4]| {
             let mut memory = [&[3, 1], &readings[..], &[0]].concat();
             let mut observations = [0; 40];
             let list = vec![0x60; steps];
-            let outcome = linked::run(table, &mut [7, 8, 9], &mut memory, &list, &mut observations);
+            let outcome =
+                likunjavo::run(table, &mut [7, 8, 9], &mut memory, &list, &mut observations);
             let place = table.len() - 1;
-            let stopped =
-                Outcome::Stopped { number: 21, place, steps, misspeculating: false, masked: false };
+            let stopped = Outcome::Stopped {
+                stop: Stop::Returned,
+                place,
+                steps,
+                misspeculating: false,
+                masked: false,
+            };
             assert_eq!(outcome, stopped);
             (memory[6], observations)
         };
@@ -90,45 +83,21 @@ fn gauges_with_a_settled_array() {
     }
 }
 
-/// What a STORE that raises only the array it names would let out: the proved check refuses the table, and the proved machine shows the
-/// secret that such a check would have let through.
+/// What a STORE that raises only the array it names would let out: the proved check refuses the table, and the proved
+/// machine shows the secret that such a check would have let through.
 #[test]
 fn the_leak_is_refused_and_real() {
     let table = include_bytes!("../../examples/store-leak.table");
-    assert_eq!(linked::check(table), Verdict::Refused { number: 10, place: 43 });
+    assert_eq!(likunjavo::check(table), Verdict::Refused { fault: Fault::NotPublic, place: 43 });
     let shown = |secret: u32| {
         let list = [0x61, 0, 0x62, 1, 0, 0, 0x60, 0x62, 0, 0, 0, 0x60];
         let mut observations = [0; 21];
-        linked::run(table, &mut [1, secret], &mut [0, 0], &list, &mut observations);
+        let (mut registers, mut memory) = ([1, secret], [0, 0]);
+        let _ = likunjavo::run(table, &mut registers, &mut memory, &list, &mut observations);
         observations
     };
     assert_eq!(shown(5)[14..20], [0x72, 0, 5, 0, 0, 0]);
     assert_eq!(shown(6)[14..20], [0x72, 0, 6, 0, 0, 0]);
-}
-
-/// Document 01's marked case 4.
-#[test]
-fn runs() {
-    let mut registers = [0, 1];
-    let mut memory = [3, 2, 9, 7];
-    let mut observations = [0xee; 15];
-    let outcome = linked::run(PASSES, &mut registers, &mut memory, &[0x60; 4], &mut observations);
-    let stopped =
-        Outcome::Stopped { number: 21, place: 36, steps: 4, misspeculating: false, masked: false };
-    assert_eq!(outcome, stopped);
-    assert_eq!(registers, [2, 9]);
-    assert_eq!(memory, [3, 2, 9, 7]);
-    let observed = [0x70, 0x72, 0, 1, 0, 0, 0, 0x70, 0x72, 0, 2, 0, 0, 0, 0xee];
-    assert_eq!(observations, observed);
-}
-
-/// Empty slices have pointers to nothing.
-#[test]
-fn runs_on_empty_slices() {
-    let outcome = linked::run(&[], &mut [], &mut [], &[], &mut []);
-    assert_eq!(outcome, Outcome::Refused { number: 2, place: 0 });
-    let outcome = linked::run(PASSES, &mut [], &mut [], &[], &mut []);
-    assert_eq!(outcome, Outcome::Refused { number: 15, place: 0 });
 }
 
 #[test]
@@ -142,8 +111,12 @@ fn the_runs_of_the_benchmark_use_their_whole_list() {
         let (mut registers, mut memory) = (run.registers.clone(), run.memory.clone());
         let mut room = run.observations.clone();
         let outcome =
-            linked::run(&run.table, &mut registers, &mut memory, &run.directives, &mut room);
-        assert!(matches!(outcome, Outcome::Stopped { number: 20, .. }), "{:?}", outcome);
+            likunjavo::run(&run.table, &mut registers, &mut memory, &run.directives, &mut room);
+        assert!(
+            matches!(outcome, Outcome::Stopped { stop: Stop::ListUsedUp, .. }),
+            "{:?}",
+            outcome
+        );
         assert!(run.directives.len() > 16_380);
     }
 }
@@ -153,7 +126,7 @@ fn the_runs_of_the_benchmark_use_their_whole_list() {
 fn the_stack_is_measured() {
     let check = |table: Vec<u8>| {
         stack::depth_of(|| {
-            linked::check(&table);
+            let _ = likunjavo::check(&table);
         })
     };
     assert_eq!(stack::depth_of(|| {}), 0);
@@ -161,12 +134,13 @@ fn the_stack_is_measured() {
     assert!(0 < straight && 2 * straight < nested, "{} and {}", straight, nested);
 }
 
-/// Document 02, order 2: stack is short where the check runs. The table that goes deepest stays far below what likunjavo.h says of a call.
+/// Document 02, order 2: stack is short where the check runs. The table that goes deepest stays far below what
+/// likunjavo.h says of a call.
 #[test]
 fn the_stack_stays_short() {
     let table = tables::nested(32 * 1_024);
     let depth = stack::depth_of(|| {
-        assert!(matches!(linked::check(&table), Verdict::Accepted { functions: 32, .. }));
+        assert!(matches!(likunjavo::check(&table), Verdict::Accepted { functions: 32, .. }));
     });
     assert!(0 < depth && depth < 12 * 1_024, "{} bytes", depth);
 }

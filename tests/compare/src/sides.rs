@@ -1,6 +1,7 @@
-//! The two implementations behind one trait, so that either can be replaced.
+//! The two implementations behind one trait, so that either can be replaced. Answers are compared as the second
+//! implementation gives them; those of the archive are put into the same form.
 
-use second::message::{self, Part};
+use second::message::{self, Part, Slice};
 use second::{Outcome, Verdict};
 
 pub trait Side {
@@ -21,13 +22,41 @@ pub trait Side {
 /// The proved archive.
 pub struct Rattle;
 
+fn verdict_of(verdict: likunjavo::Verdict) -> Verdict {
+    match verdict {
+        likunjavo::Verdict::Accepted { functions, bytes } => Verdict::Accepted { functions, bytes },
+        likunjavo::Verdict::Refused { fault, place } => {
+            Verdict::Refused { number: fault.number(), place }
+        }
+    }
+}
+
+fn part_of(part: likunjavo::Part) -> Part {
+    let slice = match part.slice {
+        likunjavo::Slice::Table => Slice::Table,
+        likunjavo::Slice::List => Slice::Directives,
+    };
+    Part { slice, offset: part.offset, length: part.length }
+}
+
+fn outcome_of(outcome: likunjavo::Outcome) -> Outcome {
+    match outcome {
+        likunjavo::Outcome::Refused { fault, place } => {
+            Outcome::Refused { number: fault.number(), place }
+        }
+        likunjavo::Outcome::Stopped { stop, place, steps, misspeculating, masked } => {
+            Outcome::Stopped { number: stop.number(), place, steps, misspeculating, masked }
+        }
+    }
+}
+
 impl Side for Rattle {
     fn check(&self, table: &[u8]) -> Verdict {
-        crate::check(table)
+        verdict_of(likunjavo::check(table))
     }
 
     fn shown(&self, table: &[u8], list: &[u8], number: u8, place: usize) -> Part {
-        crate::shown(table, list, number, place)
+        part_of(likunjavo::shown(table, list, number, place))
     }
 
     fn run(
@@ -38,7 +67,7 @@ impl Side for Rattle {
         list: &[u8],
         observations: &mut [u8],
     ) -> Outcome {
-        crate::run(table, registers, memory, list, observations)
+        outcome_of(likunjavo::run(table, registers, memory, list, observations))
     }
 }
 

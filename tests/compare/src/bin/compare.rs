@@ -1,14 +1,14 @@
 //! `compare quick`, `compare long [SEED] [--minutes M]`: holds the proved archive against the second implementation, on cases
-//! from seeds. `--break ERROR` puts an error in (see `linked::planted`), to see one found. Ends with 1 where the two differ, or
+//! from seeds. `--break ERROR` puts an error in (see `compare::planted`), to see one found. Ends with 1 where the two differ, or
 //! where something that should come up never did.
 
-use linked::answer::compared;
-use linked::case::Case;
-use linked::planted::{sides, Error};
-use linked::report::report;
-use linked::shrink::shrunk;
-use linked::sorts::SORTS;
-use linked::tally::Tally;
+use compare::answer::compared;
+use compare::case::Case;
+use compare::planted::{sides, Error};
+use compare::report::report;
+use compare::shrink::shrunk;
+use compare::sorts::SORTS;
+use compare::tally::Tally;
 use std::panic::{catch_unwind, AssertUnwindSafe};
 use std::process::exit;
 use std::sync::atomic::{AtomicU64, Ordering::Relaxed};

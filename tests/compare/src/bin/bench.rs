@@ -2,8 +2,8 @@
 //! with the table; and how deep the stack goes. `--short` takes fewer rounds; `--ratios` leaves the times out, which say nothing
 //! under an emulator.
 
-use linked::sides::{Rattle, Second, Side};
-use linked::{stack, tables};
+use compare::sides::{Rattle, Second, Side};
+use compare::{stack, tables};
 use second::gen::{self, Rng, Rules, RunCase, Style};
 use second::{table, Outcome, Verdict};
 use std::time::{Duration, Instant};

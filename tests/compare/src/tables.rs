@@ -39,8 +39,7 @@ fn passing(text: &str) -> Vec<u8> {
 /// Repeats `phrase` between `before` and `after` as often as it fits into so many bytes.
 fn filled(before: &str, phrase: &str, after: &str, bytes: usize) -> Vec<u8> {
     let length = |times: usize| {
-        assemble(&[before, &phrase.repeat(times), after].concat())
-            .map_or(0, |table| table.len())
+        assemble(&[before, &phrase.repeat(times), after].concat()).map_or(0, |table| table.len())
     };
     let each = length(2) - length(1);
     let times = 1 + (bytes - length(1)) / each;

@@ -1,10 +1,10 @@
-//! `replay [--break ERROR] CASE..`, or lines on standard input: shows what both sides answer to a case (see `linked::case`).
+//! `replay [--break ERROR] CASE..`, or lines on standard input: shows what both sides answer to a case (see `compare::case`).
 //! Ends with 1 where they differ, with 2 where a line is no case.
 
-use linked::answer::compared;
-use linked::case::Case;
-use linked::planted::{sides, Error};
-use linked::report::{answer_text, case_text, report};
+use compare::answer::compared;
+use compare::case::Case;
+use compare::planted::{sides, Error};
+use compare::report::{answer_text, case_text, report};
 use std::io::{self, BufRead};
 use std::process::exit;
 
