@@ -146,8 +146,8 @@ fn lies_within(part: &Part, table: &[u8], list: &[u8]) -> bool {
     part.offset.checked_add(part.length).map_or(false, |end| end <= length)
 }
 
-/// A record or directive of the kind that the number's message shows stands at the place; 01 says nothing of other places,
-/// and the second implementation answers for these alone.
+/// A record or directive of the kind that the number's message shows stands at the place; 01 says nothing of other
+/// places, and the second implementation answers for these alone.
 fn can_be_shown(table: &[u8], list: &[u8], number: u8, place: usize) -> bool {
     match number {
         2 | 9 => place <= table.len(),

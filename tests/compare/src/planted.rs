@@ -66,8 +66,8 @@ impl Error {
     }
 }
 
-/// The two sides to compare, the first with an error if one is named. With `ObservesSecret` both have it, so that they agree
-/// and only the comparison of two runs can find it.
+/// The two sides to compare, the first with an error if one is named. With `ObservesSecret` both have it, so that
+/// they agree and only the comparison of two runs can find it.
 pub fn sides(error: Option<Error>) -> (Box<dyn Side>, Box<dyn Side>) {
     match error {
         None => (Box::new(Rattle), Box::new(Second)),

@@ -12,8 +12,8 @@ use std::fmt::Write;
 /// Longer cases are not put on a command line.
 const LONGEST_ARGUMENTS: usize = 4_000;
 
-/// The case and both answers, for a reader, and the command that replays it: `replay`, then the case, or the file `saved` that
-/// holds it where it is too long for a command.
+/// The case and both answers, for a reader, and the command that replays it: `replay`, then the case, or the file
+/// `saved` that holds it where it is too long for a command.
 pub fn report(case: &Case, difference: &Difference, replay: &str, saved: &str) -> String {
     let mut out = case_text(case);
     out.push('\n');
@@ -88,7 +88,8 @@ fn difference_text(difference: &Difference) -> String {
             columns("Rattle", &rows_of(rattle), "second implementation", &rows_of(second))
         }
         Difference::Leak { one, other } => {
-            let mut out = "The table passes and the states differ in secrets only, but the two runs can be told apart:\n\n"
+            let mut out = "The table passes and the states differ in secrets only, \
+                           but the two runs can be told apart:\n\n"
                 .to_string();
             out.push_str(&columns(
                 "first run",

@@ -20,9 +20,9 @@ fn used_with(paint: u8, work: &mut dyn FnMut()) -> usize {
     let mut handed: &mut dyn FnMut() = work;
     let top = (stack.as_mut_ptr() as usize + SIZE) & !15;
     let call: extern "C" fn(&mut &mut dyn FnMut()) = call_work;
-    // SAFETY: `top` is the aligned upper end of a megabyte that only this call uses. The old stack pointer is kept in r12, which
-    // a C function gives back as it was; everything else that a call may change is declared. `call_work` does not unwind: a
-    // panic there aborts.
+    // SAFETY: `top` is the aligned upper end of a megabyte that only this call uses. The old stack pointer is kept in
+    // r12, which a C function gives back as it was; everything else that a call may change is declared. `call_work`
+    // does not unwind: a panic there aborts.
     unsafe {
         asm!(
             "xchg rsp, r12",

@@ -5,8 +5,8 @@ use second::gen::{self, Rng, Rules, RunCase, Shape};
 use second::machine::{kind, Directive, MAX_DIRECTIVES};
 use second::{check, Verdict};
 
-/// The shape of generated tables that come to nearly so many bytes. Past fifteen sixteenths only what must be written is, which
-/// is less than the rest of a table of 32,768 bytes.
+/// The shape of generated tables that come to nearly so many bytes. Past fifteen sixteenths only what must be written
+/// is, which is less than the rest of a table of 32,768 bytes.
 pub fn shape_of(bytes: usize) -> Shape {
     let functions = (bytes / 512).clamp(2, 32);
     Shape {
@@ -16,8 +16,8 @@ pub fn shape_of(bytes: usize) -> Shape {
     }
 }
 
-/// Generated tables that pass, of nine tenths of so many bytes up to all of them. They are written by the rules before order 3, whose
-/// tables still pass: so the figures of the benchmark can be compared over that order.
+/// Generated tables that pass, of nine tenths of so many bytes up to all of them. They are written by the rules
+/// before order 3, whose tables still pass: so the figures of the benchmark can be compared over that order.
 pub fn generated(bytes: usize, count: usize, rng: &mut Rng) -> Vec<Vec<u8>> {
     let mut tables = Vec::new();
     while tables.len() < count {
@@ -135,7 +135,8 @@ pub fn long_loop() -> RunCase {
 pub fn many_accesses() -> RunCase {
     let arrays = "array 16\n".repeat(8);
     let table = passing(&format!(
-        "sizes 3 8 1\n{}signature unknown PPP/SSSSSSSS unknown SSS/SSSSSSSS\nconst r2 15\nwhile r2 unknown PSP/SSSSSSSS\n\
+        "sizes 3 8 1\n{}signature unknown PPP/SSSSSSSS unknown SSS/SSSSSSSS\n\
+         const r2 15\nwhile r2 unknown PSP/SSSSSSSS\n\
          load r1 a7[r0]\nstore a6[r0] r1\nload r1 a5[r0]\nstore a7[r0] r1\nendwhile\nreturn\n",
         arrays
     ));
@@ -147,7 +148,8 @@ pub fn many_accesses() -> RunCase {
 pub fn fixed_accesses() -> RunCase {
     let arrays = "array 16\n".repeat(8);
     let table = passing(&format!(
-        "sizes 3 8 1\n{}signature unknown PPP/SSSSSSSS unknown SSS/SSSSSSSS\nconst r2 15\nwhile r2 unknown PSP/SSSSSSSS\n\
+        "sizes 3 8 1\n{}signature unknown PPP/SSSSSSSS unknown SSS/SSSSSSSS\n\
+         const r2 15\nwhile r2 unknown PSP/SSSSSSSS\n\
          load r1 a7[0]\nstore a6[0] r1\nload r1 a5[0]\nstore a7[0] r1\nendwhile\nreturn\n",
         arrays
     ));
@@ -159,7 +161,8 @@ pub fn fixed_accesses() -> RunCase {
 pub fn stray_accesses() -> RunCase {
     let arrays = "array 16\n".repeat(8);
     let table = passing(&format!(
-        "sizes 3 8 1\n{}signature unknown PPP/SSSSSSSS unknown SSS/SSSSSSSS\nconst r0 99\nwhile r2 unknown PSP/SSSSSSSS\n\
+        "sizes 3 8 1\n{}signature unknown PPP/SSSSSSSS unknown SSS/SSSSSSSS\n\
+         const r0 99\nwhile r2 unknown PSP/SSSSSSSS\n\
          load r1 a0[r0]\nstore a1[r0] r1\nendwhile\nreturn\n",
         arrays
     ));
@@ -168,8 +171,8 @@ pub fn stray_accesses() -> RunCase {
     run_with(table, list_of(&[kind::PLAIN], &turn))
 }
 
-/// A loop at the end of a table of so many bytes that calls twice, and each turn comes back from the first call to the place
-/// after the second.
+/// A loop at the end of a table of so many bytes that calls twice, and each turn comes back from the first call to
+/// the place after the second.
 pub fn wrong_returns(bytes: usize) -> RunCase {
     let signatures = "signature unknown P/ unknown P/\n".repeat(3);
     let table = filled(

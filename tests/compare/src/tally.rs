@@ -155,8 +155,8 @@ impl fmt::Display for Tally {
         writeln!(f)?;
         writeln!(
             f,
-            "{} steps, {} runs that end misspeculating, {} with the flag masked; {} pairs with different secrets, {} pairs of \
-             tables that must not pass told apart",
+            "{} steps, {} runs that end misspeculating, {} with the flag masked; {} pairs with different secrets, \
+             {} pairs of tables that must not pass told apart",
             self.steps,
             self.misspeculating,
             self.masked,

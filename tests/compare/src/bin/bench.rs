@@ -1,6 +1,6 @@
-//! `bench`: check and run of the proved archive against the second implementation, in one process, as ratios; how time grows
-//! with the table; and how deep the stack goes. `--short` takes fewer rounds; `--ratios` leaves the times out, which say nothing
-//! under an emulator.
+//! `bench`: check and run of the proved archive against the second implementation, in one process, as ratios; how
+//! time grows with the table; and how deep the stack goes. `--short` takes fewer rounds; `--ratios` leaves the times
+//! out, which say nothing under an emulator.
 
 use compare::sides::{Rattle, Second, Side};
 use compare::{stack, tables};
@@ -11,8 +11,8 @@ use std::time::{Duration, Instant};
 const KB: usize = 1_024;
 const SIZES: [usize; 6] = [KB, 2 * KB, 4 * KB, 8 * KB, 16 * KB, 32 * KB];
 const TABLES_OF_A_SIZE: usize = 12;
-/// Each side's share of a round takes at least so long: enough for the clock, and short enough that other programs on the host
-/// leave some rounds alone.
+/// Each side's share of a round takes at least so long: enough for the clock, and short enough that other programs on
+/// the host leave some rounds alone.
 const LEAST: Duration = Duration::from_millis(1);
 
 struct Plan {
@@ -215,8 +215,8 @@ fn checks(plan: &Plan, sized: &[(usize, Vec<Vec<u8>>)]) {
     let per_byte = |points: &[(f64, f64)], at: usize| points[at].1 / points[at].0;
     let (at_4, at_32) = (2, SIZES.len() - 1);
     println!(
-        "growth of the check with the table: Rattle bytes^{:.2}, second bytes^{:.2}; ns per byte at 32 KB over 4 KB: Rattle {:.2}, \
-         second {:.2}\n",
+        "growth of the check with the table: Rattle bytes^{:.2}, second bytes^{:.2}; \
+         ns per byte at 32 KB over 4 KB: Rattle {:.2}, second {:.2}\n",
         exponent(&ours),
         exponent(&theirs),
         per_byte(&ours, at_32) / per_byte(&ours, at_4),

@@ -1,6 +1,6 @@
-//! `compare quick`, `compare long [SEED] [--minutes M]`: holds the proved archive against the second implementation, on cases
-//! from seeds. `--break ERROR` puts an error in (see `compare::planted`), to see one found. Ends with 1 where the two differ, or
-//! where something that should come up never did.
+//! `compare quick`, `compare long [SEED] [--minutes M]`: holds the proved archive against the second implementation,
+//! on cases from seeds. `--break ERROR` puts an error in (see `compare::planted`), to see one found. Ends with 1
+//! where the two differ, or where something that should come up never did.
 
 use compare::answer::compared;
 use compare::case::Case;
@@ -111,7 +111,8 @@ struct Shared {
     start: Instant,
 }
 
-/// One worker's part: a seed at a time, until there are no more or the time is over. The teller says now and then how far all are.
+/// One worker's part: a seed at a time, until there are no more or the time is over. The teller says now and then how
+/// far all are.
 fn work(plan: &Plan, shared: &Shared, teller: bool) -> Tally {
     let mut tally = Tally::default();
     let mut told = shared.start;

@@ -1,5 +1,5 @@
-//! `replay [--break ERROR] CASE..`, or lines on standard input: shows what both sides answer to a case (see `compare::case`).
-//! Ends with 1 where they differ, with 2 where a line is no case.
+//! `replay [--break ERROR] CASE..`, or lines on standard input: shows what both sides answer to a case (see
+//! `compare::case`). Ends with 1 where they differ, with 2 where a line is no case.
 
 use compare::answer::compared;
 use compare::case::Case;
