@@ -29,15 +29,15 @@ pub enum Answer {
     Pair(After, After),
 }
 
-/// Why a case fails.
+/// Why a case fails. (Answers are large, and a difference is rare: hence the boxes.)
 #[derive(Clone, Debug, PartialEq, Eq)]
 pub enum Difference {
     /// The two sides answer differently.
-    Answers { rattle: Answer, second: Answer },
+    Answers { rattle: Box<Answer>, second: Box<Answer> },
     /// Two runs of a table that passes, from states that differ in secrets only, can be told apart.
-    Leak { one: After, other: After },
+    Leak { one: Box<After>, other: Box<After> },
     /// What number and place show does not lie where it must.
-    Outside { rattle: Answer },
+    Outside { rattle: Box<Answer> },
 }
 
 const MARGIN: usize = 3;
@@ -115,7 +115,7 @@ pub fn compared(case: &Case, rattle: &dyn Side, second: &dyn Side) -> Result<Ans
     let ours = answer(rattle, case);
     if let (Case::Shown { table, list, number, place }, Answer::Shown(part)) = (case, &ours) {
         if !lies_within(part, table, list) {
-            return Err(Difference::Outside { rattle: ours });
+            return Err(Difference::Outside { rattle: Box::new(ours) });
         }
         if !can_be_shown(table, list, *number, *place) {
             return Ok(ours);
@@ -123,11 +123,12 @@ pub fn compared(case: &Case, rattle: &dyn Side, second: &dyn Side) -> Result<Ans
     }
     let theirs = answer(second, case);
     if ours != theirs {
-        return Err(Difference::Answers { rattle: ours, second: theirs });
+        return Err(Difference::Answers { rattle: Box::new(ours), second: Box::new(theirs) });
     }
     if let (Case::Pair { first, registers, memory }, Answer::Pair(one, other)) = (case, &ours) {
         if !alike(one, other) && must_be_alike(second, first, registers, memory) {
-            return Err(Difference::Leak { one: one.clone(), other: other.clone() });
+            let (one, other) = (Box::new(one.clone()), Box::new(other.clone()));
+            return Err(Difference::Leak { one, other });
         }
     }
     Ok(ours)
