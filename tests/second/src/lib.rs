@@ -7,26 +7,23 @@
 //! * [`check`], [`line()`]: the verdict and the check program's line.
 //! * [`machine`]: [`run`], faults 1 to 9, 15, 16 and stops 20 to 26.
 //! * [`message`]: the bytes that a fault message shows.
-//! * [`asm`]: tables as text and back.
 //! * [`gen`]: seeded tables, directive lists and cases.
 //! * [`pairs`]: two runs with different secrets.
-//! * [`text`]: cases and results as lines.
 //!
 //! Orders 1 and 3 of `02-change-requests.md` (02) are built too: LOAD FIXED and
 //! STORE FIXED, kinds 1B and 1C, and INIT settling arrays. (Order 2 changes no
 //! answer.)
 //!
-//! Words of 01 and 02 stand in quotation marks in the comments.
+//! Words of 01 and 02 stand in quotation marks in the comments. Tables are written
+//! as text by `tools/text`, which the tests here use too.
 
 #![forbid(unsafe_code)]
 
-pub mod asm;
 pub mod gen;
 pub mod machine;
 pub mod message;
 pub mod pairs;
 pub mod table;
-pub mod text;
 pub mod typing;
 
 pub use machine::{run, Outcome};

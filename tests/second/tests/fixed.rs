@@ -6,7 +6,6 @@
 mod common;
 
 use common::{asm, hex, naive, ran, stopped, verdict, Ran};
-use second::asm::{assemble, disassemble};
 use second::gen::{self, Rng, Rules};
 use second::message;
 use second::pairs::pair;
@@ -31,18 +30,6 @@ fn accepted(table: &[u8]) {
     assert_eq!(check(table), Verdict::Accepted { functions: 1, bytes: table.len() });
     assert_eq!(naive::check(table), Ok(1));
     assert_eq!(gen::check_by(Rules::Right, table), Ok(1));
-}
-
-#[test]
-fn the_files_belong_together() {
-    for &(text, table) in &[
-        (HASH_LOAD, &include_bytes!("../../examples/hash-load.table")[..]),
-        (HASH_FIXED, &include_bytes!("../../examples/hash-fixed.table")[..]),
-        (STORE_LEAK, &include_bytes!("../../examples/store-leak.table")[..]),
-    ] {
-        assert_eq!(assemble(text).as_deref(), Ok(table));
-        assert_eq!(assemble(&disassemble(table)).as_deref(), Ok(table));
-    }
 }
 
 // The hash.

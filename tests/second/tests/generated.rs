@@ -170,7 +170,9 @@ fn damaged_fixed_accesses() {
 fn mutated_and_altered_tables() {
     let mut refused = [0; 15];
     for seed in 0..4_000 {
-        for table in &[gen::mutated(seed), gen::altered(seed)] {
+        let altered = gen::altered(seed);
+        assert!(second::table::read(&altered).is_ok(), "seed {}", seed);
+        for table in &[gen::mutated(seed), altered] {
             match agrees(table, seed) {
                 Verdict::Accepted { .. } => refused[0] += 1,
                 Verdict::Refused { number, .. } => refused[usize::from(number)] += 1,

@@ -43,16 +43,6 @@ fn accepted_since(text: &str, number: u8, place: usize, without: usize) {
 const GAUGE_PROTECT: &str = include_str!("../../examples/gauge-protect.txt");
 const GAUGE_INIT: &str = include_str!("../../examples/gauge-init.txt");
 
-#[test]
-fn the_files_belong_together() {
-    for &(text, table) in &[
-        (GAUGE_PROTECT, &include_bytes!("../../examples/gauge-protect.table")[..]),
-        (GAUGE_INIT, &include_bytes!("../../examples/gauge-init.table")[..]),
-    ] {
-        assert_eq!(asm(text), table);
-    }
-}
-
 /// "our writers add PROTECTs that do nothing": what they had to write, and the same without.
 #[test]
 fn a_gauge_without_its_protects() {

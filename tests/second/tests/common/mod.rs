@@ -29,7 +29,7 @@ pub fn table_b() -> Vec<u8> {
 }
 
 pub fn asm(text: &str) -> Vec<u8> {
-    second::asm::assemble(text).expect("the text assembles")
+    likunjavo_text::assemble(text).expect("the text assembles")
 }
 
 /// "refused N at P", or the accepted line.
