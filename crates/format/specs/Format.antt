@@ -62,23 +62,23 @@ rowsOf z t at =
     let bit : ℕ → Bool = λ i. ltb (byte t (at + i)) 2 in
     -- byte i names the array, bytes j and j + 1 the word
     let word : ℕ → ℕ → Bool = λ i j. ltb (word16 t (at + j)) (wordsAt z t (byte t (at + i))) in
-    (16, reg 1 ∷ [], Do (Const (b 1) (word32 t (at + 2)))) ∷
-    (17, reg 1 ∷ ltb (b 2) 8 ∷ reg 3 ∷ reg 4 ∷ [], Do (Op (b 1) (b 2) (b 3) (b 4))) ∷
-    (18, reg 1 ∷ reg 2 ∷ reg 3 ∷ reg 4 ∷ [], Do (Select (b 1) (b 2) (b 3) (b 4))) ∷
-    (19, reg 1 ∷ arr 2 ∷ reg 3 ∷ [], Do (Load (b 1) (b 2) (b 3))) ∷
-    (20, arr 1 ∷ reg 2 ∷ reg 3 ∷ [], Do (Store (b 1) (b 2) (b 3))) ∷
-    (21, [], Do Init) ∷
-    (22, reg 1 ∷ bit 2 ∷ [], Do (Update (b 1) (eqb (b 2) 1))) ∷
-    (23, reg 1 ∷ reg 2 ∷ [], Do (Protect (b 1) (b 2))) ∷
-    (24, ltb (b 1) (z .functions) ∷ bit 2 ∷ [], Call (b 1) (eqb (b 2) 1)) ∷
-    (27, reg 1 ∷ arr 2 ∷ word 2 3 ∷ [], Do (LoadFixed (b 1) (b 2) (word16 t (at + 3)))) ∷
-    (28, arr 1 ∷ word 1 2 ∷ reg 4 ∷ [], Do (StoreFixed (b 1) (word16 t (at + 2)) (b 4))) ∷
-    (32, reg 1 ∷ [], If (b 1) (word16 t (at + 2))) ∷
-    (33, [], Else (word16 t (at + 1))) ∷
-    (34, [], Endif) ∷
-    (35, reg 1 ∷ packedIn (z .registers) (z .arrays) (packedAt t (at + 4)) ∷ [], While (b 1) (word16 t (at + 2)) (packedAt t (at + 4))) ∷
-    (36, [], Endwhile (word16 t (at + 1))) ∷
-    (37, [], Return) ∷ []
+    (0x10, reg 1 ∷ [], Do (Const (b 1) (word32 t (at + 2)))) ∷
+    (0x11, reg 1 ∷ ltb (b 2) 8 ∷ reg 3 ∷ reg 4 ∷ [], Do (Op (b 1) (b 2) (b 3) (b 4))) ∷
+    (0x12, reg 1 ∷ reg 2 ∷ reg 3 ∷ reg 4 ∷ [], Do (Select (b 1) (b 2) (b 3) (b 4))) ∷
+    (0x13, reg 1 ∷ arr 2 ∷ reg 3 ∷ [], Do (Load (b 1) (b 2) (b 3))) ∷
+    (0x14, arr 1 ∷ reg 2 ∷ reg 3 ∷ [], Do (Store (b 1) (b 2) (b 3))) ∷
+    (0x15, [], Do Init) ∷
+    (0x16, reg 1 ∷ bit 2 ∷ [], Do (Update (b 1) (eqb (b 2) 1))) ∷
+    (0x17, reg 1 ∷ reg 2 ∷ [], Do (Protect (b 1) (b 2))) ∷
+    (0x18, ltb (b 1) (z .functions) ∷ bit 2 ∷ [], Call (b 1) (eqb (b 2) 1)) ∷
+    (0x1B, reg 1 ∷ arr 2 ∷ word 2 3 ∷ [], Do (LoadFixed (b 1) (b 2) (word16 t (at + 3)))) ∷
+    (0x1C, arr 1 ∷ word 1 2 ∷ reg 4 ∷ [], Do (StoreFixed (b 1) (word16 t (at + 2)) (b 4))) ∷
+    (0x20, reg 1 ∷ [], If (b 1) (word16 t (at + 2))) ∷
+    (0x21, [], Else (word16 t (at + 1))) ∷
+    (0x22, [], Endif) ∷
+    (0x23, reg 1 ∷ packedIn (z .registers) (z .arrays) (packedAt t (at + 4)) ∷ [], While (b 1) (word16 t (at + 2)) (packedAt t (at + 4))) ∷
+    (0x24, [], Endwhile (word16 t (at + 1))) ∷
+    (0x25, [], Return) ∷ []
 
 -- the record of kind k at `at`, by its row; no row is 3
 abbrev pub byRow : List ℕ → ℕ → ℕ → List Row → Decoded

@@ -21,26 +21,26 @@ use Rattle.format.specs.Format.{byte, word16, wordsAt, wordsFrom, Row, r
 
 -- the kind byte of a record
 abbrev pub simpleKind : Simple → ℕ
-simpleKind (Const d v) = 16
-simpleKind (Op d o l r) = 17
-simpleKind (Select d c y n) = 18
-simpleKind (Load d a i) = 19
-simpleKind (Store a i s) = 20
-simpleKind Init = 21
-simpleKind (Update r s) = 22
-simpleKind (Protect d s) = 23
-simpleKind (LoadFixed d a i) = 27
-simpleKind (StoreFixed a i s) = 28
+simpleKind (Const d v) = 0x10
+simpleKind (Op d o l r) = 0x11
+simpleKind (Select d c y n) = 0x12
+simpleKind (Load d a i) = 0x13
+simpleKind (Store a i s) = 0x14
+simpleKind Init = 0x15
+simpleKind (Update r s) = 0x16
+simpleKind (Protect d s) = 0x17
+simpleKind (LoadFixed d a i) = 0x1B
+simpleKind (StoreFixed a i s) = 0x1C
 
 abbrev pub kindOf : Record → ℕ
 kindOf (Do s) = simpleKind s
-kindOf (Call f m) = 24
-kindOf (If r e) = 32
-kindOf (Else n) = 33
-kindOf Endif = 34
-kindOf (While r e L) = 35
-kindOf (Endwhile w) = 36
-kindOf Return = 37
+kindOf (Call f m) = 0x18
+kindOf (If r e) = 0x20
+kindOf (Else n) = 0x21
+kindOf Endif = 0x22
+kindOf (While r e L) = 0x23
+kindOf (Endwhile w) = 0x24
+kindOf Return = 0x25
 
 -- the place that a record names stands in its two bytes
 abbrev pub Names : List ℕ → ℕ → Record → Type 0

@@ -1,5 +1,5 @@
 // The check, the message and the run for programs in other languages: numbers and lent slices, nothing else. A slice is a
-// pointer and a length (tests/linked/likunjavo.h). No function asks anything of what it is lent.
+// pointer and a length (bindings/c/likunjavo.h). No function asks anything of what it is lent.
 use machine::Outcome;
 use message::Part;
 use typing::Verdict;

@@ -26,7 +26,7 @@ backAt d at = pick (ltb (length d - at) 3) Bad (Got (Back (word16 d (at + 1))) (
 
 -- 60 is plain; an unknown kind is bad
 unfoldable pub directiveAt : List ℕ → ℕ → Told
-directiveAt d at = find (byte d at) Bad ((96, Got Plain (at + 1)) ∷ (97, branchAt d at) ∷ (98, strayAt d at) ∷ (99, backAt d at) ∷ [])
+directiveAt d at = find (byte d at) Bad ((0x60, Got Plain (at + 1)) ∷ (0x61, branchAt d at) ∷ (0x62, strayAt d at) ∷ (0x63, backAt d at) ∷ [])
 
 abbrev pub onTold : {A : Type 0} → Told → (Directive → ℕ → A) → A → A
 onTold (Got d next) g b = g d next
@@ -51,9 +51,9 @@ directivesOf d = directivesFrom (length d) d 0
 
 -- 70 nothing; 71 branch, 1 byte; 72 address, array 1, index 4
 abbrev pub bytesOf : Observation → List ℕ
-bytesOf Nothing = 112 ∷ []
-bytesOf (Way b) = 113 ∷ pick b 1 0 ∷ []
-bytesOf (Address a i) = 114 ∷ a ∷ i % 256 ∷ i / 256 % 256 ∷ i / 65536 % 256 ∷ i / 16777216 % 256 ∷ []
+bytesOf Nothing = 0x70 ∷ []
+bytesOf (Way b) = 0x71 ∷ pick b 1 0 ∷ []
+bytesOf (Address a i) = 0x72 ∷ a ∷ i % 256 ∷ i / 256 % 256 ∷ i / 65536 % 256 ∷ i / 16777216 % 256 ∷ []
 
 unfoldable pub allBytes : List Observation → List ℕ
 allBytes [] = []

@@ -18,10 +18,10 @@ pub(crate) fn directive_at(d: &[u8], at: usize) -> Told
 {
     let kind = d[at];
     match kind {
-        96 => Told::Got(Directive::Plain, at + 1),
-        97 => branch_at(d, at),
-        98 => stray_at(d, at),
-        99 => back_at(d, at),
+        0x60 => Told::Got(Directive::Plain, at + 1),
+        0x61 => branch_at(d, at),
+        0x62 => stray_at(d, at),
+        0x63 => back_at(d, at),
         _ => Told::Bad,
     }
 }
@@ -116,13 +116,13 @@ pub(crate) fn put_observation(s: &mut [u8], at: usize, o: Observation)
     ensures { λ _. ⌜ now (s .exit) ≡ sets (now (s .entry)) at (bytesOf o) ⌝ }
 {
     match o {
-        Observation::Nothing => put(s, at, 112),
+        Observation::Nothing => put(s, at, 0x70),
         Observation::Way(b) => {
-            put(s, at, 113);
+            put(s, at, 0x71);
             put(s, at + 1, bit(b));
         }
         Observation::Address(a, i) => {
-            put(s, at, 114);
+            put(s, at, 0x72);
             put(s, at + 1, a);
             put(s, at + 2, (i % 256) as u8);
             put(s, at + 3, (i / 256 % 256) as u8);

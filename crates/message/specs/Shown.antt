@@ -16,7 +16,7 @@ kindLength k = find k (codeLength k) ((1, 4) ∷ (2, 3) ∷ (3, 17) ∷ [])
 
 -- the bytes of a directive, by its kind: 60 plain, 61 branch, 62 stray access, 63 return. Of an unknown one only the kind shows
 abbrev pub directiveLength : ℕ → ℕ
-directiveLength k = find k 1 ((96, 1) ∷ (97, 2) ∷ (98, 4) ∷ (99, 3) ∷ [])
+directiveLength k = find k 1 ((0x60, 1) ∷ (0x61, 2) ∷ (0x62, 4) ∷ (0x63, 3) ∷ [])
 
 -- fault n at p, of the table: the kind byte only for 3; the rest for a cut record or 9; else the record
 abbrev pub tableCount : List ℕ → ℕ → ℕ → ℕ

@@ -42,10 +42,10 @@ fn directive_length(kind: u8) -> usize
     ensures { λ r. ⌜ r ≡ directiveLength kind ⌝ }
 {
     match kind {
-        96 => 1,
-        97 => 2,
-        98 => 4,
-        99 => 3,
+        0x60 => 1,
+        0x61 => 2,
+        0x62 => 4,
+        0x63 => 3,
         _ => 1,
     }
 }

@@ -27,30 +27,30 @@ instr-is zero cur z t c at = refl
 instr-is (suc d) cur z t c at = refl
 
 -- IF and WHILE by their blocks, where a nesting is left
-pub if-is : (d cur : ℕ) (z : Sizes) (t : List ℕ) (at next e : ℕ) {w : Walked} → (d ≡ 0 → ⊥) → blockAt (d - 1) cur z t 33 next ≡ w
-    → onShut Fault w (λ p. met p e p (onShut Fault (blockAt (d - 1) cur z t 34 (p + 3)) λ q. met q (word16 t (p + 1)) q (Next (q + 1)))) ≡ ifWith (blocksAt d cur z t at) t next e
+pub if-is : (d cur : ℕ) (z : Sizes) (t : List ℕ) (at next e : ℕ) {w : Walked} → (d ≡ 0 → ⊥) → blockAt (d - 1) cur z t 0x21 next ≡ w
+    → onShut Fault w (λ p. met p e p (onShut Fault (blockAt (d - 1) cur z t 0x22 (p + 3)) λ q. met q (word16 t (p + 1)) q (Next (q + 1)))) ≡ ifWith (blocksAt d cur z t at) t next e
 unfolding ifWith
 if-is zero cur z t at next e h b = absurd (h refl)
 if-is (suc d) cur z t at next e h b = rw (sym b, sub-one) refl
 
-pub if-met : (d cur : ℕ) (z : Sizes) (t : List ℕ) (at next e : ℕ) {p : ℕ} {w : Walked} → (d ≡ 0 → ⊥) → blockAt (d - 1) cur z t 33 next ≡ Shut p → p ≡ e → blockAt (d - 1) cur z t 34 (p + 3) ≡ w
+pub if-met : (d cur : ℕ) (z : Sizes) (t : List ℕ) (at next e : ℕ) {p : ℕ} {w : Walked} → (d ≡ 0 → ⊥) → blockAt (d - 1) cur z t 0x21 next ≡ Shut p → p ≡ e → blockAt (d - 1) cur z t 0x22 (p + 3) ≡ w
     → onShut Fault w (λ q. met q (word16 t (p + 1)) q (Next (q + 1))) ≡ ifWith (blocksAt d cur z t at) t next e
 if-met d cur z t at next e {p} h b k f = rw (sym (if-is d cur z t at next e h b), sym f, eq-eqb p e k) refl
 
-pub if-missed : (d cur : ℕ) (z : Sizes) (t : List ℕ) (at next e : ℕ) {p : ℕ} → (d ≡ 0 → ⊥) → blockAt (d - 1) cur z t 33 next ≡ Shut p → (p ≡ e → ⊥) → Fault 5 p ≡ ifWith (blocksAt d cur z t at) t next e
+pub if-missed : (d cur : ℕ) (z : Sizes) (t : List ℕ) (at next e : ℕ) {p : ℕ} → (d ≡ 0 → ⊥) → blockAt (d - 1) cur z t 0x21 next ≡ Shut p → (p ≡ e → ⊥) → Fault 5 p ≡ ifWith (blocksAt d cur z t at) t next e
 if-missed d cur z t at next e {p} h b k = rw (sym (if-is d cur z t at next e h b), ne-eqb p e k) refl
 
-pub while-is : (d cur : ℕ) (z : Sizes) (t : List ℕ) (at next e : ℕ) {w : Walked} → (d ≡ 0 → ⊥) → blockAt (d - 1) cur z t 36 next ≡ w
+pub while-is : (d cur : ℕ) (z : Sizes) (t : List ℕ) (at next e : ℕ) {w : Walked} → (d ≡ 0 → ⊥) → blockAt (d - 1) cur z t 0x24 next ≡ w
     → onShut Fault w (λ p. met p e p (met (word16 t (p + 1)) at p (Next (p + 3)))) ≡ whileWith (blocksAt d cur z t at) t at next e
 unfolding whileWith
 while-is zero cur z t at next e h b = absurd (h refl)
 while-is (suc d) cur z t at next e h b = rw (sym b, sub-one) refl
 
-pub while-met : (d cur : ℕ) (z : Sizes) (t : List ℕ) (at next e : ℕ) {p : ℕ} → (d ≡ 0 → ⊥) → blockAt (d - 1) cur z t 36 next ≡ Shut p → p ≡ e
+pub while-met : (d cur : ℕ) (z : Sizes) (t : List ℕ) (at next e : ℕ) {p : ℕ} → (d ≡ 0 → ⊥) → blockAt (d - 1) cur z t 0x24 next ≡ Shut p → p ≡ e
     → met (word16 t (p + 1)) at p (Next (p + 3)) ≡ whileWith (blocksAt d cur z t at) t at next e
 while-met d cur z t at next e {p} h b k = rw (sym (while-is d cur z t at next e h b), eq-eqb p e k) refl
 
-pub while-missed : (d cur : ℕ) (z : Sizes) (t : List ℕ) (at next e : ℕ) {p : ℕ} → (d ≡ 0 → ⊥) → blockAt (d - 1) cur z t 36 next ≡ Shut p → (p ≡ e → ⊥) → Fault 5 p ≡ whileWith (blocksAt d cur z t at) t at next e
+pub while-missed : (d cur : ℕ) (z : Sizes) (t : List ℕ) (at next e : ℕ) {p : ℕ} → (d ≡ 0 → ⊥) → blockAt (d - 1) cur z t 0x24 next ≡ Shut p → (p ≡ e → ⊥) → Fault 5 p ≡ whileWith (blocksAt d cur z t at) t at next e
 while-missed d cur z t at next e {p} h b k = rw (sym (while-is d cur z t at next e h b), ne-eqb p e k) refl
 
 -- a block that is shut is shut in the table
@@ -60,11 +60,11 @@ shut d cur z t c at e = subst (Ok z t c at) e (block-at-ok d cur z t c at) .1
 pub shut-one : (d cur : ℕ) (z : Sizes) (t : List ℕ) (c at : ℕ) {p : ℕ} → blockAt d cur z t c at ≡ Shut p → p + 1 ≤ length t
 shut-one d cur z t c at e = let k = shut d cur z t c at e in omega (arith, k .whole, length-pos (k .with))
 
-pub shut-else : (d cur : ℕ) (z : Sizes) (t : List ℕ) (at : ℕ) {p : ℕ} → blockAt d cur z t 33 at ≡ Shut p → p + 3 ≤ length t
-shut-else d cur z t at e = else-whole z t _ (shut d cur z t 33 at e)
+pub shut-else : (d cur : ℕ) (z : Sizes) (t : List ℕ) (at : ℕ) {p : ℕ} → blockAt d cur z t 0x21 at ≡ Shut p → p + 3 ≤ length t
+shut-else d cur z t at e = else-whole z t _ (shut d cur z t 0x21 at e)
 
-pub shut-endwhile : (d cur : ℕ) (z : Sizes) (t : List ℕ) (at : ℕ) {p : ℕ} → blockAt d cur z t 36 at ≡ Shut p → p + 3 ≤ length t
-shut-endwhile d cur z t at e = endwhile-whole z t _ (shut d cur z t 36 at e)
+pub shut-endwhile : (d cur : ℕ) (z : Sizes) (t : List ℕ) (at : ℕ) {p : ℕ} → blockAt d cur z t 0x24 at ≡ Shut p → p + 3 ≤ length t
+shut-endwhile d cur z t at e = endwhile-whole z t _ (shut d cur z t 0x24 at e)
 
 -- past the end an instruction is cut
 pub instr-end : (d cur : ℕ) (z : Sizes) (t : List ℕ) (c at : ℕ) → length t ≤ at → instrAt d cur z t c at ≡ Fault 2 at

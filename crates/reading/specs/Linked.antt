@@ -44,7 +44,7 @@ record-is z t p e = ap recordFrom e
 
 -- a closing record, by its kind
 abbrev ByKind : List ℕ → ℕ → ℕ → Record → Type 0
-ByKind t p c r = (c ≡ 33 → r ≡ Else (word16 t (p + 1))) × (c ≡ 34 → r ≡ Endif) × (c ≡ 36 → r ≡ Endwhile (word16 t (p + 1))) × (c ≡ 37 → r ≡ Return)
+ByKind t p c r = (c ≡ 0x21 → r ≡ Else (word16 t (p + 1))) × (c ≡ 0x22 → r ≡ Endif) × (c ≡ 0x24 → r ≡ Endwhile (word16 t (p + 1))) × (c ≡ 0x25 → r ≡ Return)
 
 by-kind : (t : List ℕ) (p c : ℕ) (r : Record) → Closes r → kindOf r ≡ c → Names t p r → ByKind t p c r
 by-kind t p c (Do s) h k n = absurd h
@@ -117,31 +117,31 @@ module _ (t : List ℕ) (g : ℕ) where
   module _ (d : ℕ) (B : ℕ → ℕ → Walked) (h : (c p : ℕ) → Inner d c p (B c p)) (c p : ℕ) where
     if-found : (r e : ℕ) → T .rec p ≡ If r e → Found d c p (ifWith B t (p + 4) e)
     unfolding ifWith
-    if-found r e i = first (B 33 (p + 4)) (h 33 (p + 4))
+    if-found r e i = first (B 0x21 (p + 4)) (h 0x21 (p + 4))
       where
-        second : (e₁ : ℕ) → T .rec e₁ ≡ Else (word16 t (e₁ + 1)) → e₁ ≡ e → (a : Types T reading g (p + 4) tt e₁ tt) → nesting T reading a < d → (w : Walked) → Inner d 34 (e₁ + 3) w
+        second : (e₁ : ℕ) → T .rec e₁ ≡ Else (word16 t (e₁ + 1)) → e₁ ≡ e → (a : Types T reading g (p + 4) tt e₁ tt) → nesting T reading a < d → (w : Walked) → Inner d 0x22 (e₁ + 3) w
             → Found d c p (onShut Fault w λ q. met q (word16 t (e₁ + 1)) q (Next (q + 1)))
         second e₁ j u a la (Next x) b = absurd b
         second e₁ j u a la (Fault x y) b = tt
         second e₁ j u a la (Shut n) (b, lb, k) = same n (word16 t (e₁ + 1)) (λ v. Found d c p (pick v (Next (n + 1)) (Fault 5 n)))
-            (λ v q w. (branch {p = p} (rw (← u) at i) tt a (j ∙ ap (λ (x : ℕ). Else x) (sym v)) b (closing-is 34 n k .1 refl) (w .0), omega (arith, w .1))) (λ _. tt)
+            (λ v q w. (branch {p = p} (rw (← u) at i) tt a (j ∙ ap (λ (x : ℕ). Else x) (sym v)) b (closing-is 0x22 n k .1 refl) (w .0), omega (arith, w .1))) (λ _. tt)
 
-        first : (w : Walked) → Inner d 33 (p + 4) w → Found d c p (onShut Fault w λ e₁. met e₁ e e₁ (onShut Fault (B 34 (e₁ + 3)) λ q. met q (word16 t (e₁ + 1)) q (Next (q + 1))))
+        first : (w : Walked) → Inner d 0x21 (p + 4) w → Found d c p (onShut Fault w λ e₁. met e₁ e e₁ (onShut Fault (B 0x22 (e₁ + 3)) λ q. met q (word16 t (e₁ + 1)) q (Next (q + 1))))
         first (Next x) a = absurd a
         first (Fault x y) a = tt
-        first (Shut e₁) (a, la, k) = same e₁ e (λ v. Found d c p (pick v (onShut Fault (B 34 (e₁ + 3)) λ q. met q (word16 t (e₁ + 1)) q (Next (q + 1))) (Fault 5 e₁)))
-            (λ u. second e₁ (closing-is 33 e₁ k .0 refl) u a la (B 34 (e₁ + 3)) (h 34 (e₁ + 3))) (λ _. tt)
+        first (Shut e₁) (a, la, k) = same e₁ e (λ v. Found d c p (pick v (onShut Fault (B 0x22 (e₁ + 3)) λ q. met q (word16 t (e₁ + 1)) q (Next (q + 1))) (Fault 5 e₁)))
+            (λ u. second e₁ (closing-is 0x21 e₁ k .0 refl) u a la (B 0x22 (e₁ + 3)) (h 0x22 (e₁ + 3))) (λ _. tt)
 
     while-found : (r e : ℕ) (L : Packed) → T .rec p ≡ While r e L → Found d c p (whileWith B t p (p + 11) e)
     unfolding whileWith
-    while-found r e L i = body (B 36 (p + 11)) (h 36 (p + 11))
+    while-found r e L i = body (B 0x24 (p + 11)) (h 0x24 (p + 11))
       where
-        body : (w : Walked) → Inner d 36 (p + 11) w → Found d c p (onShut Fault w λ e₁. met e₁ e e₁ (met (word16 t (e₁ + 1)) p e₁ (Next (e₁ + 3))))
+        body : (w : Walked) → Inner d 0x24 (p + 11) w → Found d c p (onShut Fault w λ e₁. met e₁ e e₁ (met (word16 t (e₁ + 1)) p e₁ (Next (e₁ + 3))))
         body (Next x) a = absurd a
         body (Fault x y) a = tt
         body (Shut e₁) (a, la, k) = same e₁ e (λ v. Found d c p (pick v (met (word16 t (e₁ + 1)) p e₁ (Next (e₁ + 3))) (Fault 5 e₁)))
             (λ u. same (word16 t (e₁ + 1)) p (λ v. Found d c p (pick v (Next (e₁ + 3)) (Fault 5 e₁)))
-            (λ v q w. (loop {p = p} (rw (← u) at i) tt tt a (closing-is 36 e₁ k .2 refl ∙ ap (λ (x : ℕ). Endwhile x) v) tt (w .0), omega (arith, w .1))) (λ _. tt))
+            (λ v q w. (loop {p = p} (rw (← u) at i) tt tt a (closing-is 0x24 e₁ k .2 refl ∙ ap (λ (x : ℕ). Endwhile x) v) tt (w .0), omega (arith, w .1))) (λ _. tt))
             (λ _. tt)
 
     call-found : (f : ℕ) (m : Bool) → T .rec p ≡ Call f m → Found d c p (callAt g p (p + 3) f)
@@ -185,25 +185,25 @@ module _ (t : List ℕ) where
 
   -- function f, from its start place, closes one byte before its end
   abbrev FunctionRead : ℕ → Type 0
-  FunctionRead f = (p : ℕ) × (blockAt 16 f zs t 37 (startOf zs t f) ≡ Shut p) × (p + 1 ≡ endOf f)
+  FunctionRead f = (p : ℕ) × (blockAt 16 f zs t 0x25 (startOf zs t f) ≡ Shut p) × (p + 1 ≡ endOf f)
 
   -- the reading of function i from `at` goes on at e
   abbrev One : ℕ → ℕ → To → Type 0
-  One i at (At e) = (p : ℕ) × (at ≡ startOf zs t i) × (blockAt 16 i zs t 37 at ≡ Shut p) × (e ≡ p + 1)
+  One i at (At e) = (p : ℕ) × (at ≡ startOf zs t i) × (blockAt 16 i zs t 0x25 at ≡ Shut p) × (e ≡ p + 1)
   One i at (Off n p) = Unit {0}
 
-  shut-one : (i at : ℕ) (w : Walked) → blockAt 16 i zs t 37 at ≡ w → at ≡ startOf zs t i → One i at (onShut Off w (λ p. At (p + 1)))
+  shut-one : (i at : ℕ) (w : Walked) → blockAt 16 i zs t 0x25 at ≡ w → at ≡ startOf zs t i → One i at (onShut Off w (λ p. At (p + 1)))
   shut-one i at (Next p) e s = tt
   shut-one i at (Shut p) e s = (p, s, e, refl)
   shut-one i at (Fault n p) e s = tt
 
-  record-one : (i at : ℕ) (d : Decoded) → One i at (onRecord Off d (λ _ _. pick (eqb at (startOf zs t i)) (onShut Off (blockAt 16 i zs t 37 at) (λ p. At (p + 1))) (Off 5 at)))
-  record-one i at (Got r n) = pick-ind (One i at) (eqb at (startOf zs t i)) (λ e. shut-one i at (blockAt 16 i zs t 37 at) refl (eqb-true at (startOf zs t i) e)) (λ _. tt)
+  record-one : (i at : ℕ) (d : Decoded) → One i at (onRecord Off d (λ _ _. pick (eqb at (startOf zs t i)) (onShut Off (blockAt 16 i zs t 0x25 at) (λ p. At (p + 1))) (Off 5 at)))
+  record-one i at (Got r n) = pick-ind (One i at) (eqb at (startOf zs t i)) (λ e. shut-one i at (blockAt 16 i zs t 0x25 at) refl (eqb-true at (startOf zs t i) e)) (λ _. tt)
   record-one i at (Bad n p) = tt
 
   function-one : (i at : ℕ) → One i at (functionAt zs t i at)
   unfolding functionAt
-  function-one i at = record-one i at (recordAt zs t 37 at)
+  function-one i at = record-one i at (recordAt zs t 0x25 at)
 
   -- where the last n functions begin: at the start place of the first of them; where there is none, the table ends
   abbrev beginOf : ℕ → ℕ
@@ -224,12 +224,12 @@ module _ (t : List ℕ) where
   functions-rest zero at l = pick-ind (Rest 0 at) (eqb at (length t)) (λ e. (eqb-true at (length t) e, λ f a b. absurd (omega arith))) (λ _. tt)
   functions-rest (suc n) at l = go (functionAt zs t (zs .functions - suc n) at) (function-one (zs .functions - suc n) at) (λ p. functions-rest n p (omega arith))
     where
-      more : (p q : ℕ) → at ≡ startOf zs t (zs .functions - suc n) → blockAt 16 (zs .functions - suc n) zs t 37 at ≡ Shut p → q ≡ p + 1 → (w : To) → Rest n q w → Rest (suc n) at w
+      more : (p q : ℕ) → at ≡ startOf zs t (zs .functions - suc n) → blockAt 16 (zs .functions - suc n) zs t 0x25 at ≡ Shut p → q ≡ p + 1 → (w : To) → Rest n q w → Rest (suc n) at w
       more p q s b e (Off k x) r = tt
       more p q s b e (At x) (i, r) = (s, λ f a c. last f a c (ℕ-discrete f (zs .functions - suc n)))
         where
           last : (f : ℕ) → zs .functions - suc n ≤ f → f < zs .functions → Dec (f ≡ zs .functions - suc n) → FunctionRead f
-          last f a c (yes k) = rw k (p, subst (λ (x : ℕ). blockAt 16 (zs .functions - suc n) zs t 37 x ≡ Shut p) s b, sym e ∙ i ∙ ends n l)
+          last f a c (yes k) = rw k (p, subst (λ (x : ℕ). blockAt 16 (zs .functions - suc n) zs t 0x25 x ≡ Shut p) s b, sym e ∙ i ∙ ends n l)
           last f a c (no k) = r f (omega arith) c
 
       go : (w : To) → One (zs .functions - suc n) at w → ((p : ℕ) → Rest n p (functionsAt zs t n p)) → Rest (suc n) at (then w (functionsAt zs t n))
@@ -275,11 +275,11 @@ module _ (t : List ℕ) where
   unfolding returnOf
   all-read y e g l =
       let (p, b, q) = subst AnswerRead e answer-read .1 g l in
-      let (k, c) = block-read t g 16 37 (startOf zs t g) p b in
+      let (k, c) = block-read t g 16 0x25 (startOf zs t g) p b in
       let at-return : returnOf zs t g ≡ p = omega (arith, q) in
       let body : Block t g 16 (startOf zs t g) (returnOf zs t g) = subst (λ (x : ℕ). Block t g 16 (startOf zs t g) x) (sym at-return) k in
       record {
-        blocks = record { last = tt; body = body .0; returns = rw at-return (closing-is t g 37 p c .3 refl); fits = tt };
+        blocks = record { last = tt; body = body .0; returns = rw at-return (closing-is t g 0x25 p c .3 refl); fits = tt };
         nested = body .1;
         inside = rw at-return (omega (arith, c .whole));
       }

@@ -37,7 +37,7 @@ onShut bad (Fault n p) g = bad n p
 
 -- ---- THE CODE. A closing kind is allowed only where it is the closing kind c that is awaited
 unfoldable pub allowed : ℕ → ℕ → Bool
-allowed c k = find k true ((33, eqb c 33) ∷ (34, eqb c 34) ∷ (36, eqb c 36) ∷ (37, eqb c 37) ∷ [])
+allowed c k = find k true ((0x21, eqb c 0x21) ∷ (0x22, eqb c 0x22) ∷ (0x24, eqb c 0x24) ∷ (0x25, eqb c 0x25) ∷ [])
 
 unfoldable pub recordAt : Sizes → List ℕ → ℕ → ℕ → Decoded
 recordAt z t c at = pick (leb (length t) at) (Bad 2 at) (pick (allowed c (byte t at)) (decodeAt z t at) (Bad 3 at))
@@ -52,11 +52,11 @@ met a b p w = pick (eqb a b) w (Fault 5 p)
 
 -- IF, whose ELSE is to stand at e. B reads a block, given the closing kind that it awaits and where it begins
 unfoldable pub ifWith : (ℕ → ℕ → Walked) → List ℕ → ℕ → ℕ → Walked
-ifWith B t next e = onShut Fault (B 33 next) λ p. met p e p (onShut Fault (B 34 (p + 3)) λ q. met q (word16 t (p + 1)) q (Next (q + 1)))
+ifWith B t next e = onShut Fault (B 0x21 next) λ p. met p e p (onShut Fault (B 0x22 (p + 3)) λ q. met q (word16 t (p + 1)) q (Next (q + 1)))
 
 -- the WHILE at `at`, whose ENDWHILE is to stand at e
 unfoldable pub whileWith : (ℕ → ℕ → Walked) → List ℕ → ℕ → ℕ → ℕ → Walked
-whileWith B t at next e = onShut Fault (B 36 next) λ p. met p e p (met (word16 t (p + 1)) at p (Next (p + 3)))
+whileWith B t at next e = onShut Fault (B 0x24 next) λ p. met p e p (met (word16 t (p + 1)) at p (Next (p + 3)))
 
 -- the record r at `at`, with `next` after it
 abbrev pub readWith : (ℕ → ℕ → Walked) → ℕ → List ℕ → ℕ → Record → ℕ → Walked
@@ -89,7 +89,7 @@ blocksAt (suc d) cur z t at c x = blockAt d cur z t c x
 
 -- function i begins at `at`: its first record's 3, 2, 4, then its start place, then all of it up to its RETURN
 unfoldable pub functionAt : Sizes → List ℕ → ℕ → ℕ → To
-functionAt z t i at = onRecord Off (recordAt z t 37 at) (λ _ _. pick (eqb at (startOf z t i)) (onShut Off (blockAt 16 i z t 37 at) (λ p. At (p + 1))) (Off 5 at))
+functionAt z t i at = onRecord Off (recordAt z t 0x25 at) (λ _ _. pick (eqb at (startOf z t i)) (onShut Off (blockAt 16 i z t 0x25 at) (λ p. At (p + 1))) (Off 5 at))
 
 -- the last n functions, and nothing after them
 unfoldable pub functionsAt : Sizes → List ℕ → ℕ → ℕ → To

@@ -50,11 +50,11 @@ unfolding allowed
 closing-kind c (Do s) h a = absurd h
 closing-kind c (Call f m) h a = absurd h
 closing-kind c (If r e) h a = absurd h
-closing-kind c (Else n) h a = sym (eqb-true c 33 a)
-closing-kind c Endif h a = sym (eqb-true c 34 a)
+closing-kind c (Else n) h a = sym (eqb-true c 0x21 a)
+closing-kind c Endif h a = sym (eqb-true c 0x22 a)
 closing-kind c (While r e L) h a = absurd h
-closing-kind c (Endwhile w) h a = sym (eqb-true c 36 a)
-closing-kind c Return h a = sym (eqb-true c 37 a)
+closing-kind c (Endwhile w) h a = sym (eqb-true c 0x24 a)
+closing-kind c Return h a = sym (eqb-true c 0x25 a)
 
 pub closing : (z : Sizes) (t : List ℕ) (c at n : ℕ) (r : Record) → GoodAt z t c at (Got r n) → Closes r → Closing z t c at
 closing z t c at n r (e, a) h =
@@ -79,7 +79,7 @@ closing-in z t c p k = omega (arith, k .whole, length-pos (k .with))
 
 -- ELSE and ENDWHILE take three bytes
 abbrev Three : ℕ → Record → Type 0
-Three c r = Closes r → kindOf r ≡ c → (c ≡ 33 → lengthOf r ≡ 3) × (c ≡ 36 → lengthOf r ≡ 3)
+Three c r = Closes r → kindOf r ≡ c → (c ≡ 0x21 → lengthOf r ≡ 3) × (c ≡ 0x24 → lengthOf r ≡ 3)
 
 three : (c : ℕ) (r : Record) → Three c r
 three c (Do s) h k = absurd h
@@ -91,11 +91,11 @@ three c (While r e L) h k = absurd h
 three c (Endwhile w) h k = (λ _. refl, λ _. refl)
 three c Return h k = (λ e. absurd (omega arith), λ e. absurd (omega arith))
 
-pub else-whole : (z : Sizes) (t : List ℕ) (p : ℕ) → Closing z t 33 p → p + 3 ≤ length t
-else-whole z t p k = let e = three 33 (k .with) (k .closes) (k .kind) .0 refl in omega (arith, k .whole, e)
+pub else-whole : (z : Sizes) (t : List ℕ) (p : ℕ) → Closing z t 0x21 p → p + 3 ≤ length t
+else-whole z t p k = let e = three 0x21 (k .with) (k .closes) (k .kind) .0 refl in omega (arith, k .whole, e)
 
-pub endwhile-whole : (z : Sizes) (t : List ℕ) (p : ℕ) → Closing z t 36 p → p + 3 ≤ length t
-endwhile-whole z t p k = let e = three 36 (k .with) (k .closes) (k .kind) .1 refl in omega (arith, k .whole, e)
+pub endwhile-whole : (z : Sizes) (t : List ℕ) (p : ℕ) → Closing z t 0x24 p → p + 3 ≤ length t
+endwhile-whole z t p k = let e = three 0x24 (k .with) (k .closes) (k .kind) .1 refl in omega (arith, k .whole, e)
 
 call-ok : (z : Sizes) (t : List ℕ) (c cur at next f : ℕ) → at < next → next ≤ length t → Ok z t c at (callAt cur at next f)
 unfolding callAt
@@ -109,16 +109,16 @@ shut-ok z t c at d from (Fault n p) g h hg = tt
 if-ok : (z : Sizes) (t : List ℕ) (c : ℕ) (B : ℕ → ℕ → Walked) → ((k x : ℕ) → Ok z t k x (B k x)) → (at next e : ℕ) → at < next → Ok z t c at (ifWith B t next e)
 unfolding ifWith
 if-ok z t c B hB at next e l =
-    shut-ok z t c at 33 next (B 33 next) (λ p. met p e p (onShut Fault (B 34 (p + 3)) λ q. met q (word16 t (p + 1)) q (Next (q + 1)))) (hB 33 next)
+    shut-ok z t c at 0x21 next (B 0x21 next) (λ p. met p e p (onShut Fault (B 0x22 (p + 3)) λ q. met q (word16 t (p + 1)) q (Next (q + 1)))) (hB 0x21 next)
     (λ p lp kp. pick-ind (Ok z t c at) (eqb p e)
-    (λ _. shut-ok z t c at 34 (p + 3) (B 34 (p + 3)) (λ q. met q (word16 t (p + 1)) q (Next (q + 1))) (hB 34 (p + 3))
-    (λ q lq kq. pick-ind (Ok z t c at) (eqb q (word16 t (p + 1))) (λ _. (omega arith, omega (arith, closing-in z t 34 q kq))) (λ _. tt)))
+    (λ _. shut-ok z t c at 0x22 (p + 3) (B 0x22 (p + 3)) (λ q. met q (word16 t (p + 1)) q (Next (q + 1))) (hB 0x22 (p + 3))
+    (λ q lq kq. pick-ind (Ok z t c at) (eqb q (word16 t (p + 1))) (λ _. (omega arith, omega (arith, closing-in z t 0x22 q kq))) (λ _. tt)))
     (λ _. tt))
 
 while-ok : (z : Sizes) (t : List ℕ) (c : ℕ) (B : ℕ → ℕ → Walked) → ((k x : ℕ) → Ok z t k x (B k x)) → (at next e : ℕ) → at < next → Ok z t c at (whileWith B t at next e)
 unfolding whileWith
 while-ok z t c B hB at next e l =
-    shut-ok z t c at 36 next (B 36 next) (λ p. met p e p (met (word16 t (p + 1)) at p (Next (p + 3)))) (hB 36 next)
+    shut-ok z t c at 0x24 next (B 0x24 next) (λ p. met p e p (met (word16 t (p + 1)) at p (Next (p + 3)))) (hB 0x24 next)
     (λ p lp kp. pick-ind (Ok z t c at) (eqb p e)
     (λ _. pick-ind (Ok z t c at) (eqb (word16 t (p + 1)) at) (λ _. (omega arith, endwhile-whole z t p kp)) (λ _. tt))
     (λ _. tt))

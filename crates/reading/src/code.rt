@@ -14,10 +14,10 @@ fn allowed_here(c: u8, k: u8) -> bool
     ensures { λ r. ⌜ r ≡ allowed c k ⌝ }
 {
     match k {
-        33 => c == 33,
-        34 => c == 34,
-        36 => c == 36,
-        37 => c == 37,
+        0x21 => c == 0x21,
+        0x22 => c == 0x22,
+        0x24 => c == 0x24,
+        0x25 => c == 0x25,
         _ => true,
     }
 }
@@ -61,7 +61,7 @@ fn branch_at(t: &[u8], z: Sizes, cur: u8, at: usize, next: usize, to: usize, dep
     if depth == 0 {
         return Walked::Fault(6, at);
     }
-    let first = block(t, z, cur, 33, next, depth - 1);
+    let first = block(t, z, cur, 0x21, next, depth - 1);
     match first {
         Walked::Next(p) => Walked::Fault(3, p),
         Walked::Fault(n, p) => Walked::Fault(n, p),
@@ -69,7 +69,7 @@ fn branch_at(t: &[u8], z: Sizes, cur: u8, at: usize, next: usize, to: usize, dep
             if p != to {
                 return Walked::Fault(5, p);
             }
-            let second = block(t, z, cur, 34, p + 3, depth - 1);
+            let second = block(t, z, cur, 0x22, p + 3, depth - 1);
             match second {
                 Walked::Next(q) => Walked::Fault(3, q),
                 Walked::Fault(n, q) => Walked::Fault(n, q),
@@ -86,7 +86,7 @@ fn loop_at(t: &[u8], z: Sizes, cur: u8, at: usize, next: usize, to: usize, depth
     if depth == 0 {
         return Walked::Fault(6, at);
     }
-    let body = block(t, z, cur, 36, next, depth - 1);
+    let body = block(t, z, cur, 0x24, next, depth - 1);
     match body {
         Walked::Next(p) => Walked::Fault(3, p),
         Walked::Fault(n, p) => Walked::Fault(n, p),
@@ -142,7 +142,7 @@ fn block(t: &[u8], z: Sizes, cur: u8, c: u8, from: usize, depth: u8) -> Walked
 fn function(t: &[u8], z: Sizes, i: u8, at: usize) -> To
     ensures { λ r. ⌜ r ≡ functionAt z (now (t .entry)) i at ⌝ }
 {
-    let d = record(t, z, 37, at);
+    let d = record(t, z, 0x25, at);
     match d {
         Decoded::Bad(n, p) => To::Fault(n, p),
         Decoded::Got(r, next) => {
@@ -150,7 +150,7 @@ fn function(t: &[u8], z: Sizes, i: u8, at: usize) -> To
             if at != start {
                 return To::Fault(5, at);
             }
-            let b = block(t, z, i, 37, at, 16);
+            let b = block(t, z, i, 0x25, at, 16);
             match b {
                 Walked::Next(p) => To::Fault(3, p),
                 Walked::Fault(n, p) => To::Fault(n, p),

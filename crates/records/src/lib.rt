@@ -21,30 +21,30 @@ pub fn code_length(kind: u8) -> usize
     ensures { λ r. ⌜ (r ≡ codeLength kind) × (r < 12) ⌝ }
 {
     match kind {
-        16 => 6,
-        17 => 5,
-        18 => 5,
-        19 => 4,
-        20 => 4,
-        21 => 1,
-        22 => 3,
-        23 => 3,
-        24 => 3,
-        27 => 5,
-        28 => 5,
-        32 => 4,
-        33 => 3,
-        34 => 1,
-        35 => 11,
-        36 => 3,
-        37 => 1,
+        0x10 => 6,
+        0x11 => 5,
+        0x12 => 5,
+        0x13 => 4,
+        0x14 => 4,
+        0x15 => 1,
+        0x16 => 3,
+        0x17 => 3,
+        0x18 => 3,
+        0x1B => 5,
+        0x1C => 5,
+        0x20 => 4,
+        0x21 => 3,
+        0x22 => 1,
+        0x23 => 11,
+        0x24 => 3,
+        0x25 => 1,
         _ => 0,
     }
 }
 
 fn read_const(t: &[u8], at: usize, z: Sizes) -> Decoded
     requires { ⌜ at + 6 ≤ length (now t) ⌝ }
-    ensures { λ r. ⌜ r ≡ rowAt 16 z (now (t .entry)) at ⌝ }
+    ensures { λ r. ⌜ r ≡ rowAt 0x10 z (now (t .entry)) at ⌝ }
 {
     let dest = t[at + 1];
     let value = word_at(t, at + 2);
@@ -56,7 +56,7 @@ fn read_const(t: &[u8], at: usize, z: Sizes) -> Decoded
 
 fn read_op(t: &[u8], at: usize, z: Sizes) -> Decoded
     requires { ⌜ at + 5 ≤ length (now t) ⌝ }
-    ensures { λ r. ⌜ r ≡ rowAt 17 z (now (t .entry)) at ⌝ }
+    ensures { λ r. ⌜ r ≡ rowAt 0x11 z (now (t .entry)) at ⌝ }
 {
     let dest = t[at + 1];
     let op = t[at + 2];
@@ -87,7 +87,7 @@ fn read_op(t: &[u8], at: usize, z: Sizes) -> Decoded
 
 fn read_select(t: &[u8], at: usize, z: Sizes) -> Decoded
     requires { ⌜ at + 5 ≤ length (now t) ⌝ }
-    ensures { λ r. ⌜ r ≡ rowAt 18 z (now (t .entry)) at ⌝ }
+    ensures { λ r. ⌜ r ≡ rowAt 0x12 z (now (t .entry)) at ⌝ }
 {
     let dest = t[at + 1];
     let cond = t[at + 2];
@@ -118,7 +118,7 @@ fn read_select(t: &[u8], at: usize, z: Sizes) -> Decoded
 
 fn read_load(t: &[u8], at: usize, z: Sizes) -> Decoded
     requires { ⌜ at + 4 ≤ length (now t) ⌝ }
-    ensures { λ r. ⌜ r ≡ rowAt 19 z (now (t .entry)) at ⌝ }
+    ensures { λ r. ⌜ r ≡ rowAt 0x13 z (now (t .entry)) at ⌝ }
 {
     let dest = t[at + 1];
     let array = t[at + 2];
@@ -137,7 +137,7 @@ fn read_load(t: &[u8], at: usize, z: Sizes) -> Decoded
 
 fn read_store(t: &[u8], at: usize, z: Sizes) -> Decoded
     requires { ⌜ at + 4 ≤ length (now t) ⌝ }
-    ensures { λ r. ⌜ r ≡ rowAt 20 z (now (t .entry)) at ⌝ }
+    ensures { λ r. ⌜ r ≡ rowAt 0x14 z (now (t .entry)) at ⌝ }
 {
     let array = t[at + 1];
     let index = t[at + 2];
@@ -163,7 +163,7 @@ fn read_store(t: &[u8], at: usize, z: Sizes) -> Decoded
 
 fn read_update(t: &[u8], at: usize, z: Sizes) -> Decoded
     requires { ⌜ at + 3 ≤ length (now t) ⌝ }
-    ensures { λ r. ⌜ r ≡ rowAt 22 z (now (t .entry)) at ⌝ }
+    ensures { λ r. ⌜ r ≡ rowAt 0x16 z (now (t .entry)) at ⌝ }
 {
     let register = t[at + 1];
     let sense = t[at + 2];
@@ -184,7 +184,7 @@ fn read_update(t: &[u8], at: usize, z: Sizes) -> Decoded
 
 fn read_protect(t: &[u8], at: usize, z: Sizes) -> Decoded
     requires { ⌜ at + 3 ≤ length (now t) ⌝ }
-    ensures { λ r. ⌜ r ≡ rowAt 23 z (now (t .entry)) at ⌝ }
+    ensures { λ r. ⌜ r ≡ rowAt 0x17 z (now (t .entry)) at ⌝ }
 {
     let dest = t[at + 1];
     let source = t[at + 2];
@@ -199,7 +199,7 @@ fn read_protect(t: &[u8], at: usize, z: Sizes) -> Decoded
 
 fn read_call(t: &[u8], at: usize, z: Sizes) -> Decoded
     requires { ⌜ at + 3 ≤ length (now t) ⌝ }
-    ensures { λ r. ⌜ r ≡ rowAt 24 z (now (t .entry)) at ⌝ }
+    ensures { λ r. ⌜ r ≡ rowAt 0x18 z (now (t .entry)) at ⌝ }
 {
     let function = t[at + 1];
     let mark = t[at + 2];
@@ -227,7 +227,7 @@ fn has_word(t: &[u8], z: Sizes, a: u8, i: usize) -> bool
 
 fn read_load_fixed(t: &[u8], at: usize, z: Sizes) -> Decoded
     requires { ⌜ at + 5 ≤ length (now t) ⌝ }
-    ensures { λ r. ⌜ r ≡ rowAt 27 z (now (t .entry)) at ⌝ }
+    ensures { λ r. ⌜ r ≡ rowAt 0x1B z (now (t .entry)) at ⌝ }
 {
     let dest = t[at + 1];
     let array = t[at + 2];
@@ -253,7 +253,7 @@ fn read_load_fixed(t: &[u8], at: usize, z: Sizes) -> Decoded
 
 fn read_store_fixed(t: &[u8], at: usize, z: Sizes) -> Decoded
     requires { ⌜ at + 5 ≤ length (now t) ⌝ }
-    ensures { λ r. ⌜ r ≡ rowAt 28 z (now (t .entry)) at ⌝ }
+    ensures { λ r. ⌜ r ≡ rowAt 0x1C z (now (t .entry)) at ⌝ }
 {
     let array = t[at + 1];
     let index = place_at(t, at + 2);
@@ -279,7 +279,7 @@ fn read_store_fixed(t: &[u8], at: usize, z: Sizes) -> Decoded
 
 fn read_if(t: &[u8], at: usize, z: Sizes) -> Decoded
     requires { ⌜ at + 4 ≤ length (now t) ⌝ }
-    ensures { λ r. ⌜ r ≡ rowAt 32 z (now (t .entry)) at ⌝ }
+    ensures { λ r. ⌜ r ≡ rowAt 0x20 z (now (t .entry)) at ⌝ }
 {
     let register = t[at + 1];
     let to = place_at(t, at + 2);
@@ -291,7 +291,7 @@ fn read_if(t: &[u8], at: usize, z: Sizes) -> Decoded
 
 fn read_else(t: &[u8], at: usize, z: Sizes) -> Decoded
     requires { ⌜ at + 3 ≤ length (now t) ⌝ }
-    ensures { λ r. ⌜ r ≡ rowAt 33 z (now (t .entry)) at ⌝ }
+    ensures { λ r. ⌜ r ≡ rowAt 0x21 z (now (t .entry)) at ⌝ }
 {
     let to = place_at(t, at + 1);
     Decoded::Got(Record::Else { to }, at + 3)
@@ -299,7 +299,7 @@ fn read_else(t: &[u8], at: usize, z: Sizes) -> Decoded
 
 fn read_while(t: &[u8], at: usize, z: Sizes) -> Decoded
     requires { ⌜ at + 11 ≤ length (now t) ⌝ }
-    ensures { λ r. ⌜ r ≡ rowAt 35 z (now (t .entry)) at ⌝ }
+    ensures { λ r. ⌜ r ≡ rowAt 0x23 z (now (t .entry)) at ⌝ }
 {
     let register = t[at + 1];
     let to = place_at(t, at + 2);
@@ -315,7 +315,7 @@ fn read_while(t: &[u8], at: usize, z: Sizes) -> Decoded
 
 fn read_endwhile(t: &[u8], at: usize, z: Sizes) -> Decoded
     requires { ⌜ at + 3 ≤ length (now t) ⌝ }
-    ensures { λ r. ⌜ r ≡ rowAt 36 z (now (t .entry)) at ⌝ }
+    ensures { λ r. ⌜ r ≡ rowAt 0x24 z (now (t .entry)) at ⌝ }
 {
     let to = place_at(t, at + 1);
     Decoded::Got(Record::Endwhile { to }, at + 3)
@@ -345,23 +345,23 @@ fn fields(t: &[u8], at: usize, z: Sizes, kind: u8) -> Decoded
     ensures { λ r. ⌜ r ≡ rowAt kind z (now (t .entry)) at ⌝ }
 {
     match kind {
-        16 => read_const(t, at, z),
-        17 => read_op(t, at, z),
-        18 => read_select(t, at, z),
-        19 => read_load(t, at, z),
-        20 => read_store(t, at, z),
-        21 => Decoded::Got(Record::Do(Simple::Init), at + 1),
-        22 => read_update(t, at, z),
-        23 => read_protect(t, at, z),
-        24 => read_call(t, at, z),
-        27 => read_load_fixed(t, at, z),
-        28 => read_store_fixed(t, at, z),
-        32 => read_if(t, at, z),
-        33 => read_else(t, at, z),
-        34 => Decoded::Got(Record::Endif, at + 1),
-        35 => read_while(t, at, z),
-        36 => read_endwhile(t, at, z),
-        37 => Decoded::Got(Record::Return, at + 1),
+        0x10 => read_const(t, at, z),
+        0x11 => read_op(t, at, z),
+        0x12 => read_select(t, at, z),
+        0x13 => read_load(t, at, z),
+        0x14 => read_store(t, at, z),
+        0x15 => Decoded::Got(Record::Do(Simple::Init), at + 1),
+        0x16 => read_update(t, at, z),
+        0x17 => read_protect(t, at, z),
+        0x18 => read_call(t, at, z),
+        0x1B => read_load_fixed(t, at, z),
+        0x1C => read_store_fixed(t, at, z),
+        0x20 => read_if(t, at, z),
+        0x21 => read_else(t, at, z),
+        0x22 => Decoded::Got(Record::Endif, at + 1),
+        0x23 => read_while(t, at, z),
+        0x24 => read_endwhile(t, at, z),
+        0x25 => Decoded::Got(Record::Return, at + 1),
         _ => Decoded::Bad(3, at),
     }
 }

@@ -356,7 +356,7 @@ branch-at-add-met-at : (t : ℕ) → branch-at-lts.Need-add-met-at (
 ) (branch-at-at t) branch-at.Post
 branch-at-add-met-at t c =
     let a = c .before .before .before .before .before .before .before .before .before .before .before .before .args in
-    let w = shut-one (a .depth - 1) (a .cur) (a .z) (a .t .now) 34 _ (sym (c .before .before .before .before .block2 .ensures) ∙ c .before .before .second3 .given .1) in
+    let w = shut-one (a .depth - 1) (a .cur) (a .z) (a .t .now) 0x22 _ (sym (c .before .before .before .before .block2 .ensures) ∙ c .before .before .second3 .given .1) in
     search needs
 
 branch-at-met-at-requires : (t : ℕ) → branch-at-lts.Need-met-at-requires (

@@ -45,7 +45,7 @@ enum-known-b-3 c = search needs
 add-t19 : tie.Need-add-t19
 add-t19 c =
     let a = c .before .before .before .before .before .before .before .before .before .before .before .args in
-    let w = shut-one 16 (a .i) (a .z) (a .t .now) 37 (a .at) (sym (c .before .before .before .block .ensures) ∙ c .before .b3 .given .1) in
+    let w = shut-one 16 (a .i) (a .z) (a .t .now) 0x25 (a .at) (sym (c .before .before .before .block .ensures) ∙ c .before .b3 .given .1) in
     search needs
 
 returns-2 : tie.Need-returns-2
