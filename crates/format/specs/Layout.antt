@@ -1,13 +1,13 @@
 -- Document 01, "Table layout": the whole table. Sizes, the arrays, the signatures, then the functions in order, touching.
-use Prim.Native.Nat.{ℕ, zero, suc, _+_, _-_, _*_}
-use mathlib.Core.Path.{_≡_, refl}
+use Prim.Native.Nat.{ℕ, zero, suc, _+_, _-_, _*_, _<_, _≤_}
+use mathlib.Core.Path.{_≡_, refl, ap}
 use mathlib.Core.List.{List}
 use lib.ListN.{length}
-use lib.Dec.{eqb}
+use lib.Dec.{eqb, ltb}
+use borrow.Author.Tests.{lt-ltb, le-ltb}
 use Rattle.model.specs.Tests.{pick}
 use Rattle.model.specs.Packing.{envOf}
-use Rattle.model.specs.Records.{Fits, Reaches, Keeps}
-use Rattle.model.specs.Sites.{scan, homeOf}
+use Rattle.model.specs.Records.{lengthOf, Fits, Reaches, Keeps}
 use Rattle.model.specs.Table.{Table}
 use Rattle.model.specs.declared.Sizes.{Sizes}
 use Rattle.model.specs.declared.Packed.{Packed}
@@ -43,6 +43,10 @@ recordFrom (Bad n p) = Return
 unfoldable pub recordOf : Sizes → List ℕ → ℕ → Record
 recordOf z t p = recordFrom (decodeAt z t p)
 
+-- where the record after the one at p is due; from the table's end on, no further
+unfoldable pub nextOf : Sizes → List ℕ → ℕ → ℕ
+nextOf z t p = pick (ltb p (length t)) (p + lengthOf (recordOf z t p)) p
+
 -- function f ends one byte before the next begins; the last, with the table
 unfoldable pub returnOf : Sizes → List ℕ → ℕ → ℕ
 returnOf z t f = pick (eqb (f + 1) (z .functions)) (length t) (startOf z t (f + 1)) - 1
@@ -51,6 +55,24 @@ pub words-count : (z : Sizes) (t : List ℕ) (n a : ℕ) → length (wordsFrom z
 unfolding wordsFrom
 words-count z t zero a = refl
 words-count z t (suc n) a = rw (words-count z t n (suc a))
+
+-- the record at p by what is decoded there
+pub record-got : (z : Sizes) (t : List ℕ) (p : ℕ) {r : Record} {n : ℕ} → decodeAt z t p ≡ Got r n → recordOf z t p ≡ r
+unfolding recordOf
+record-got z t p e = ap recordFrom e
+
+pub record-bad : (z : Sizes) (t : List ℕ) (p : ℕ) {n q : ℕ} → decodeAt z t p ≡ Bad n q → recordOf z t p ≡ Return
+unfolding recordOf
+record-bad z t p e = ap recordFrom e
+
+-- a loop over the code goes on by it
+pub next-on : (z : Sizes) (t : List ℕ) (p : ℕ) → p < length t → nextOf z t p ≡ p + lengthOf (recordOf z t p)
+unfolding nextOf
+next-on z t p l = rw (lt-ltb p (length t) l) refl
+
+pub next-end : (z : Sizes) (t : List ℕ) (p : ℕ) → length t ≤ p → nextOf z t p ≡ p
+unfolding nextOf
+next-end z t p l = rw (le-ltb p (length t) l) refl
 
 -- what holds of RETURN, and of whatever is decoded at p, holds of the record there
 pub record-by : (P : Record → Type 0) (z : Sizes) (t : List ℕ) (p : ℕ) → P Return → ((r : Record) (n : ℕ) → decodeAt z t p ≡ Got r n → P r) → P (recordOf z t p)
@@ -86,7 +108,7 @@ tableWith z t = record {
   ret = returnOf z t;
   enter = λ f. envOf (inOf z t f);
   leave = λ f. envOf (outOf z t f);
-  site = λ p q. scan (recordOf z t) (length t) (length t) (startOf z t 0) (homeOf (startOf z t) (z .functions) p) q;
+  size = length t;
 }
 
 abbrev pub tableOf : List ℕ → Table

@@ -8,6 +8,7 @@ use mathlib.Core.List.{List, [], _∷_}
 use lib.ListN.{length}
 use lib.Dec.{eqb}
 use Rattle.model.specs.Tests.{pick-ind}
+use Rattle.model.specs.Sites.{site}
 use Rattle.model.specs.Table.{Table}
 use Rattle.model.specs.Machine.{Ctl, Data, reg, Work, halt, did, Stepped, Stop, Went, plain, onward, pop, work, fork, wrong, right, back, stepOf, step}
 use Rattle.model.specs.declared.Directive.{Directive}
@@ -70,7 +71,7 @@ module _ (t : Table) where
   pops (p ∷ ps) q = pick-ind (Popped (p ∷ ps)) (eqb p q) (λ _. omega arith) (λ _. tt)
 
   rights : (r : Record) (o : Option (List ℕ)) (q : ℕ) (c : Ctl) (x : Data) → Popped (c .stack) o → Grows r c (right t o q c x)
-  rights r none q c x l = wrongs r (t .site (c .place) q) q c x
+  rights r none q c x l = wrongs r (site t (c .place) q) q c x
   rights r (some ps) q c x l = λ i e. absurd (no-longer ps (c .stack) i l e)
 
   backs : (r : Record) (c : Ctl) (d : Directive) (x : Data) → Grows r c (back t c d x)

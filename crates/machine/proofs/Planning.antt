@@ -16,8 +16,7 @@ use lib.Seq.{getD-set-same, getD-set-other}
 use borrow.Author.Tests.{eq-eqb, ne-eqb, lt-ltb, le-ltb, le-leb, lt-leb, ltb-true}
 use Rattle.model.specs.Tests.{pick, pick-ind}
 use Rattle.model.specs.Table.{Table}
-use Rattle.model.specs.Records.{lengthOf, length-pos}
-use Rattle.model.specs.Sites.{scan, homeOf, markOf as callMark}
+use Rattle.model.specs.Sites.{homeOf, site}
 use Rattle.model.specs.Machine.{Ctl, Data, reg, wordsOf, wordAt, wrote, stored, flagged, operate, Work, halt, did, Stop, Went, plain, onward, byAccess, pop, inRange, strayed, access, work, wrong, right, stepOf, step}
 use Rattle.model.specs.declared.Access.{Access}
 use Rattle.model.specs.declared.Access.the-variants.{Word as At, Bad}
@@ -29,11 +28,10 @@ use Rattle.model.specs.declared.Sizes.{Sizes}
 use Rattle.model.specs.declared.Simple.{Simple}
 use Rattle.model.specs.declared.Simple.the-variants.{Load, Store}
 use Rattle.model.specs.declared.Record.{Record}
-use Rattle.model.specs.declared.Record.the-variants.{Return}
 use Rattle.format.specs.Format.{byte, word16, decodeAt}
-use Rattle.format.specs.Layout.{recordFrom, recordOf, tableWith}
+use Rattle.format.specs.Layout.{recordOf, record-got, tableWith}
 use Rattle.format.specs.declared.Decoded.{Decoded}
-use Rattle.format.specs.declared.Decoded.the-variants.{Got, Bad as Unread}
+use Rattle.format.specs.declared.Decoded.the-variants.{Got}
 use Rattle.machine.specs.States.{stackOf, ctlNext, applied, viewPlan, Lands, isPlain, tops, below, leaves}
 use Rattle.machine.specs.declared.State.{State}
 use Rattle.machine.specs.declared.Effect.{Effect}
@@ -282,7 +280,7 @@ pop-is (p ∷ ps) q = refl
 pub right-top : (t : Table) (q : ℕ) (c : Ctl) (x : Data) → tops (c .stack) q ≡ true → Went (leaves c q) x Nothing ≡ right t (pop (c .stack) q) q c x
 right-top t q c x h = sym (ap (λ (o : Option (List ℕ)). right t o q c x) (pop-is (c .stack) q ∙ picked (tops (c .stack) q) (some (below (c .stack))) none h))
 
-pub right-lost : (t : Table) (q : ℕ) (c : Ctl) (x : Data) → tops (c .stack) q ≡ false → wrong t (t .site (c .place) q) q x ≡ right t (pop (c .stack) q) q c x
+pub right-lost : (t : Table) (q : ℕ) (c : Ctl) (x : Data) → tops (c .stack) q ≡ false → wrong t (site t (c .place) q) q x ≡ right t (pop (c .stack) q) q c x
 right-lost t q c x h = sym (ap (λ (o : Option (List ℕ)). right t o q c x) (pop-is (c .stack) q ∙ passed (tops (c .stack) q) (some (below (c .stack))) none h))
 
 -- ---- the function that a place lies in
@@ -300,33 +298,7 @@ unfolding homeOf
 home-before f zero p h l = absurd (h refl)
 home-before f (suc n) p h l = rw (sub-one, lt-leb (f n) p (rw sub-one at l)) refl
 
--- ---- the look for a CALL, k bounding the records from c on
-module _ (r : ℕ → Record) (size f q : ℕ) where
-  pub scan-hit : (k c : ℕ) → size - c ≤ k → c < size → q ≡ c + 3 → scan r k size c f q ≡ callMark (r c) f
-  unfolding scan
-  scan-hit zero c l h e = absurd (omega arith)
-  scan-hit (suc k) c l h e = rw (lt-ltb c size h, eq-eqb q (c + 3) e) refl
-
-  pub scan-next : (k c : ℕ) {n : ℕ} → size - c ≤ k → c < size → (q ≡ c + 3 → ⊥) → n ≡ c + lengthOf (r c)
-      → (j : ℕ) × (size - n ≤ j) × (scan r k size c f q ≡ scan r j size n f q)
-  unfolding scan
-  scan-next zero c l h e g = absurd (omega arith)
-  scan-next (suc k) c l h e g = (k, omega (arith, length-pos (r c)), rw (lt-ltb c size h, ne-eqb q (c + 3) e, g) refl)
-
-  pub scan-end : (k c : ℕ) → size ≤ c → scan r k size c f q ≡ none
-  unfolding scan
-  scan-end zero c l = refl
-  scan-end (suc k) c l = rw (le-ltb c size l) refl
-
 -- ---- records
-pub record-got : (z : Sizes) (t : List ℕ) (at : ℕ) {r : Record} {n : ℕ} → decodeAt z t at ≡ Got r n → recordOf z t at ≡ r
-unfolding recordOf
-record-got z t at e = ap recordFrom e
-
-pub record-bad : (z : Sizes) (t : List ℕ) (at : ℕ) {n p : ℕ} → decodeAt z t at ≡ Unread n p → recordOf z t at ≡ Return
-unfolding recordOf
-record-bad z t at e = ap recordFrom e
-
 pub known : (z : Sizes) (t : List ℕ) (at : ℕ) {d : Decoded} {r s : Record} {n : ℕ} → d ≡ decodeAt z t at → d ≡ Got r n → r ≡ s → decodeAt z t at ≡ Got s n
 known z t at {n = n} e g h = sym e ∙ g ∙ ap (λ (r : Record). Got r n) h
 

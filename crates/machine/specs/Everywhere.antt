@@ -11,7 +11,9 @@ use lib.ListN.{length}
 use Rattle.model.specs.Table.{Table, entry}
 use Rattle.model.specs.Rules.{reading}
 use Rattle.model.specs.Records.{length-pos}
-use Rattle.model.specs.Places.{Chain, chain-le, spans, look, between, no-return}
+use Rattle.model.specs.InOrder.{Chain, chain-le}
+use Rattle.model.specs.Functions.{ret-alone}
+use Rattle.model.specs.Places.{spans, look, between, no-return}
 use Rattle.model.specs.Code.{Reads as Known, At, enters-at, depth}
 use Rattle.model.specs.Stands.{Stands, EndStands, stack-bound, run-stands}
 use Rattle.model.specs.Machine.{Ctl, Data, Final, final, run, startCtl}
@@ -44,7 +46,7 @@ module _ (t : Table) (k : Known t) where
 
   at-end : (f p : ℕ) (E : Unit {0}) → At t k reading (k .blocks) f p E → p ≡ t .ret (entry t) → f ≡ entry t
   at-end f p E (l, inl w) e = absurd (look t reading _ (k .blocks f l .body) (no-return t reading (k .blocks f l .body)) p E w (rw e (k .blocks (entry t) (k .some-function) .returns)))
-  at-end f p E (l, inr (u, v)) e = k .alone f l (sym u ∙ e)
+  at-end f p E (l, inr (u, v)) e = ret-alone t (k .blocks) (k .touch) f (entry t) l (k .some-function) (sym u ∙ e)
 
   pub standing : (c : Ctl) → Stands t k c → Standing t c
   standing c s =

@@ -6,6 +6,7 @@ use mathlib.Core.Option.{Option, none, some}
 use mathlib.Core.List.{List, [], _∷_}
 use lib.Dec.{leb, ltb}
 use Rattle.model.specs.Tests.{pick-ind}
+use Rattle.model.specs.Sites.{site}
 use Rattle.model.specs.Table.{Table}
 use Rattle.model.specs.Machine.{Ctl, Data, reg, wordsOf, Work, halt, did, Stepped, Stop, Went, plain, onward, byAccess, inRange, strayed, access, work, pass, fork, wrong, right, pop, back, stepOf, step, size, Final, final, observed, afterStep, ended, run}
 use Rattle.model.specs.declared.Access.{Access}
@@ -97,7 +98,7 @@ module _ (t : Table) where
   wrong-listed (some m) q x = tt
 
   right-listed : (o : Option (List ℕ)) (q : ℕ) (c : Ctl) (x : Data) → StepListed (right t o q c x)
-  right-listed none q c x = wrong-listed (t .site (c .place) q) q x
+  right-listed none q c x = wrong-listed (site t (c .place) q) q x
   right-listed (some ps) q c x = tt
 
   back-listed : (c : Ctl) (d : Directive) (x : Data) → StepListed (back t c d x)

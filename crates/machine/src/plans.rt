@@ -23,11 +23,12 @@ ghost use Prim.Native.Nat.{ℕ, _+_, _-_, _*_, _%_, _≤_, _<_};
 ghost use lib.Dec.{eqb, ltb};
 ghost use lib.ListN.{length, getD};
 ghost use Rattle.format.specs.Format.{wordsFrom};
-ghost use Rattle.format.specs.Layout.{startOf, recordOf, tableWith};
+ghost use Rattle.format.specs.Layout.{startOf, tableWith};
 ghost use Rattle.machine.specs.States.{ctlOf, ctlNext, dataOf, viewPlan, isPlain, plainly, called, wayOf, tops, leaves, markOf, Lands};
 ghost use Rattle.model.specs.Machine.{Data, wordsOf, truth, holds, operate, access, strayed, work, onward, to, fork, right, wrong, pop, back, pass, step};
 ghost use Rattle.model.specs.Records.{SimpleReaches};
-ghost use Rattle.model.specs.Sites.{scan, homeOf, markOf as callMark};
+ghost use Rattle.model.specs.InOrder.{code};
+ghost use Rattle.model.specs.Sites.{homeOf, markIn, markOf as callMark};
 ghost use Rattle.model.specs.Table.{Table};
 ghost use Rattle.model.specs.Tests.{pick};
 
@@ -533,26 +534,16 @@ fn mark_of(r: Record, function: u8) -> Site
 
 // The CALL of a function that q follows: the code is gone through record by record, since its bytes may stand inside others too.
 fn site_of(t: &[u8], z: Sizes, function: u8, q: usize) -> Site
-    requires { ⌜ length (now t) ≤ 32768 ⌝ }
-    ensures { λ r. ⌜ markOf r ≡ scan (recordOf z (now (t .entry))) (length (now (t .entry))) (length (now (t .entry))) (startOf z (now (t .entry)) 0) function q ⌝ }
+    ensures { λ r. ⌜ markOf r ≡ markIn (code (tableWith z (now (t .entry)))) function q ⌝ }
 {
     let mut c = layout::start_of(t, z, 0);
     while c < t.len() {
-        let d = records::decode(t, c, z);
-        match d {
-            Decoded::Bad(n, p) => {
-                if q == c + 3 {
-                    return Site::Nowhere;
-                }
-                c = c + 1;
-            }
-            Decoded::Got(r, next) => {
-                if q == c + 3 {
-                    return mark_of(r, function);
-                }
-                c = next;
-            }
+        let here = records::record_at(t, c, z);
+        if q == c + 3 {
+            let r = here.record;
+            return mark_of(r, function);
         }
+        c = here.next;
     }
     Site::Nowhere
 }
@@ -615,7 +606,6 @@ fn popped(s: State, q: usize) -> Next
 
 // RETURN to q: the top of the stack first, then the places that follow a CALL of this function.
 fn back_to(t: &[u8], z: Sizes, s: State, q: usize) -> Plan
-    requires { ⌜ length (now t) ≤ 32768 ⌝ }
     ensures { λ r. ⌜ ((m n : List ℕ) → viewPlan (tableWith z (now (t .entry))) s r (dataOf s m n) ≡ right (tableWith z (now (t .entry))) (pop (ctlOf s .stack) q) q (ctlOf s) (dataOf s m n)) ⌝ }
     ensures lands { λ r. ⌜ ((t : Table) → Lands t (r .effect)) ⌝ }
 {
@@ -628,7 +618,6 @@ fn back_to(t: &[u8], z: Sizes, s: State, q: usize) -> Plan
 }
 
 fn returning(t: &[u8], z: Sizes, s: State, dir: Directive) -> Plan
-    requires { ⌜ length (now t) ≤ 32768 ⌝ }
     ensures { λ r. ⌜ ((m n : List ℕ) → viewPlan (tableWith z (now (t .entry))) s r (dataOf s m n) ≡ back (tableWith z (now (t .entry))) (ctlOf s) dir (dataOf s m n)) ⌝ }
     ensures lands { λ r. ⌜ ((t : Table) → Lands t (r .effect)) ⌝ }
 {

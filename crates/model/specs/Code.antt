@@ -1,39 +1,29 @@
 -- The places of a table whose functions all read, or all type: where each stands, what is at it, how deep the stack gets.
-use Prim.Native.Nat.{ℕ, _+_, _<_}
+use Prim.Native.Nat.{ℕ, suc, _+_, _<_}
 use native.Mathlib.Omega.{arith}
 use mathlib.Core.Path.{_≡_, refl, sym, _∙_, subst}
 use mathlib.Core.Logic.{_⊎_, inl, inr}
 use mathlib.Core.Bool.{Bool, true≢false}
 use mathlib.Core.List.{List, [], _∷_}
-use mathlib.Core.Option.{some}
 use lib.ListN.{length}
 use Rattle.model.specs.declared.Status.the-variants.{Unknown}
 use Rattle.model.specs.Records.{length-pos}
+use Rattle.model.specs.InOrder.{Chain, chain-le}
 use Rattle.model.specs.Table.{Table, entry}
 use Rattle.model.specs.declared.Record.{Record}
 use Rattle.model.specs.declared.Record.the-variants.{Call, Return}
 use Rattle.model.specs.Blocks.{Rules, Every}
 use Rattle.model.specs.Rules.{reading, Lower}
 use Rattle.model.specs.Flow.{To, Site, Flow, Flows, Frames}
-use Rattle.model.specs.Places.{Chain, Log, All, Here, here, chain-le, covers, needs, no-return, between, look, each, first, flows, Enters, FlowsAt}
-
--- q follows a CALL of f, marked m, somewhere in the code
-pub record Called (t : Table) (f q : ℕ) (m : Bool) : Type 0 where
-  pub caller : ℕ
-  pub call : ℕ
-  pub function : caller < t .functions
-  pub met : Chain t (t .start caller) call
-  pub inside : call < t .ret caller
-  pub is : t .rec call ≡ Call f m
-  pub follows : q ≡ call + 3
+use Rattle.model.specs.Functions.{Called, edge, site-called, ret-alone}
+use Rattle.model.specs.Places.{Log, All, Here, here, covers, needs, no-return, between, look, each, first, flows, Enters, FlowsAt}
 
 -- what reading found out
 pub record Reads (t : Table) : Type 0 where
   pub some-function : (entry t) < t .functions
   pub fresh : t .enter ((entry t)) .status ≡ Unknown  -- fault 8
   pub blocks : Every t reading  -- faults 2 to 7
-  pub alone : (f : ℕ) → f < t .functions → t .ret f ≡ t .ret ((entry t)) → f ≡ (entry t)
-  pub sites : (f q : ℕ) (m : Bool) → f < t .functions → t .site (t .ret f) q ≡ some m → Called t f q m
+  pub touch : (f : ℕ) → f < t .functions → edge t (suc f) ≡ t .ret f + 1  -- functions touch, and the last ends the table
 
 no-call : (i : Record) (f : ℕ) (m : Bool) → i ≡ Return → i ≡ Call f m → ⊥
 no-call i f m p q = true≢false (cc)
@@ -75,7 +65,7 @@ module _ (t : Table) (reads : Reads t) (R : Rules) (typed : Every t R) where
       look t R (FlowsAt t R At f) (typed f l .body) (flows t R At f (typed f l .body) (logged f l)
       (each t R (Enters t R At f) (typed f l .body) (λ c G j g m e. enters-at g (omega (arith, lower-at f c g m G (l, inl j) e)))) (l, inr (refl, refl))) p E k
   flows-at f p E (l, inr h) = here (λ c G. Flow t R At f c G (t .rec c)) (t .ret f) p (typed f l .last) E
-      (rw (typed f l .returns) (typed f l .fits, λ q m e. site-at f q m (reads .sites f q m l e))) h
+      (rw (typed f l .returns) (typed f l .fits, λ q m e. site-at f q m (site-called t (reads .blocks) (reads .touch) f q m l e))) h
 
   -- the stack never needs more places than there are functions below the entry
   pub depth : (f : ℕ) (st : List ℕ) → f < t .functions → Frames t R At f st → length st + f < t .functions
@@ -85,4 +75,4 @@ module _ (t : Table) (reads : Reads t) (R : Rules) (typed : Every t R) where
   -- at the entry's RETURN the environment is within the entry's out
   pub ends-within : (f p : ℕ) (E : R .Env) → At f p E → p ≡ t .ret ((entry t)) → R .Within E (R .leave ((entry t)))
   ends-within f p E (l, inl k) e = absurd (look t R _ (typed f l .body) (no-return t R (typed f l .body)) p E k (rw e (typed ((entry t)) (reads .some-function) .returns)))
-  ends-within f p E (l, inr (u, v)) e = rw (v, ← (reads .alone f l (sym u ∙ e))) (typed f l .fits)
+  ends-within f p E (l, inr (u, v)) e = rw (v, ← (ret-alone t (reads .blocks) (reads .touch) f (entry t) l (reads .some-function) (sym u ∙ e))) (typed f l .fits)

@@ -6,6 +6,7 @@ use mathlib.Core.Option.{some}
 use mathlib.Core.List.{List, [], _∷_}
 use Rattle.model.specs.Blocks.{Rules}
 use Rattle.model.specs.Records.{lengthOf}
+use Rattle.model.specs.Sites.{site}
 use Rattle.model.specs.Table.{Table}
 use Rattle.model.specs.declared.Record.{Record}
 use Rattle.model.specs.declared.Record.the-variants.{Do, Call, If, Else, Endif, While, Endwhile, Return}
@@ -37,7 +38,7 @@ module _ (t : Table) (R : Rules) (at : ℕ → ℕ → R .Env → Type 0) where
   Flow f p E Endif = To f (p + 1) E
   Flow f p E (While r e L) = (R .Public E r) × To f (p + 11) (R .guarded E r true) × To f (e + 3) (R .guarded E r false)
   Flow f p E (Endwhile w) = To f w E
-  Flow f p E Return = R .Within E (R .leave f) × ((q : ℕ) (m : Bool) → t .site p q ≡ some m → Site f q m)
+  Flow f p E Return = R .Within E (R .leave f) × ((q : ℕ) (m : Bool) → site t p q ≡ some m → Site f q m)
 
   abbrev pub Flows : Type 0
   Flows = (f p : ℕ) (E : R .Env) → at f p E → Flow f p E (t .rec p)

@@ -3,6 +3,8 @@ pub mod Levels
 pub mod Packing
 pub mod Records
 pub mod Table
+pub mod InOrder
+pub mod Sites
 pub mod Blocks
 pub mod Rules
 pub mod Settled
@@ -13,7 +15,6 @@ pub mod Flow
 pub mod Places
 pub mod Faults
 pub mod Walk
-pub mod Sites
 pub mod Memory
 pub mod Machine
 pub mod Fixed
@@ -22,8 +23,8 @@ pub mod Decide
 pub mod Typing
 pub mod Whole
 pub mod OneFault
+pub mod Functions
 pub mod Code
-pub mod Scans
 pub mod Stands
 pub mod Alike
 pub mod Secure

@@ -9,6 +9,7 @@ use lib.ListN.{getD, set}
 use Rattle.model.specs.Tests.{pick}
 use Rattle.model.specs.Memory.{offsetIn}
 use Rattle.model.specs.Records.{simpleLength}
+use Rattle.model.specs.Sites.{site}
 use Rattle.model.specs.Table.{Table, entry}
 use Rattle.model.specs.declared.Access.{Access}
 use Rattle.model.specs.declared.Access.the-variants.{Word, Bad}
@@ -156,7 +157,7 @@ module _ (t : Table) where
   wrong (some m) q x = Went (record { place = q; stack = []; mis = true }) (flagged x (m || x .masked)) Nothing
 
   abbrev pub right : Option (List ℕ) → ℕ → Ctl → Data → Stepped
-  right none q c x = wrong (t .site (c .place) q) q x
+  right none q c x = wrong (site t (c .place) q) q x
   right (some ps) q c x = Went (record { place = q; stack = ps; mis = c .mis }) x Nothing
 
   -- RETURN takes 63: the top of the stack first, then the places that follow a CALL of this function

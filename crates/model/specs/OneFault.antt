@@ -12,7 +12,8 @@ use Rattle.model.specs.Table.{Table}
 use Rattle.model.specs.Blocks.{Rules, Types, done, one, branch, loop, TypesFunction}
 use Rattle.model.specs.Rules.{reading, typing}
 use Rattle.model.specs.Faults.{Faults, fails, past, if-guard, if-first, if-second, if-past, while-arriving, while-guard, while-body, while-end, while-past, FaultsFunction, inside as on-the-way, at-return, FirstFault}
-use Rattle.model.specs.Places.{nesting, chain-le, spans}
+use Rattle.model.specs.InOrder.{chain-le}
+use Rattle.model.specs.Places.{nesting, spans}
 use Rattle.model.specs.Walk.{Walked, Next, Shut, Fault, onNext, Tests, Right, ifWith, whileWith, single, instrWith, blockWith, inside, functionAt, single-at, instr-at}
 use Rattle.model.specs.Passes.{else-same, walk, blocks, Faulty, below, below₁, Complete, blocks-complete, walk-complete, Passes, passes-types}
 use Rattle.model.specs.Typing.{Read}

@@ -13,7 +13,8 @@ use Rattle.model.specs.Table.{Table}
 use Rattle.model.specs.Blocks.{Rules, Types, done, one, branch, loop, TypesFunction}
 use Rattle.model.specs.Rules.{reading}
 use Rattle.model.specs.Faults.{Faults, fails, past, if-guard, if-first, if-second, if-past, while-arriving, while-guard, while-body, while-end, while-past, FaultsFunction, inside as on-the-way, at-return}
-use Rattle.model.specs.Places.{nesting, chain-le, spans}
+use Rattle.model.specs.InOrder.{chain-le}
+use Rattle.model.specs.Places.{nesting, spans}
 use Rattle.model.specs.Walk.{Walked, Next, Shut, Fault, onNext, onShut, Tests, Right, ifWith, whileWith, instrWith, blockWith, instrAt, inside, functionAt, shut-at, single-at, instr-at}
 use Rattle.model.specs.declared.Packed.{Packed}
 use Rattle.model.specs.declared.Record.{Record}

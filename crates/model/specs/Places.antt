@@ -1,15 +1,14 @@
 -- From derivations to places: every record of a typed table has an environment, and the flow facts hold there.
-use Prim.Native.Nat.{ℕ, suc, _+_, _≤_, max}
-use native.Mathlib.Omega.{arith}
-use native.Mathlib.Nat.{le-refl}
+use Prim.Native.Nat.{ℕ, suc, _+_, max}
 use mathlib.Core.Path.{_≡_, refl, subst}
 use mathlib.Core.Logic.{_⊎_, inl, inr}
 use mathlib.Core.Bool.{Bool, true≢false}
-use Rattle.model.specs.Records.{lengthOf, length-pos, Single}
+use Rattle.model.specs.Records.{lengthOf, Single}
 use Rattle.model.specs.Table.{Table}
 use Rattle.model.specs.declared.Record.{Record}
 use Rattle.model.specs.declared.Record.the-variants.{Do, Call, If, Else, Endif, While, Endwhile, Return}
 use Rattle.model.specs.Blocks.{Rules, Types, done, one, branch, loop}
+use Rattle.model.specs.InOrder.{Chain, stay, on, chain-trans, past, meet}
 use Rattle.model.specs.Flow.{To, Flow}
 
 abbrev pub Here : {X : Type 0} → ℕ → X → ℕ → X → Type 0
@@ -21,29 +20,6 @@ either (inr y) f g = g y
 
 pub here : {X : Type 0} (P : ℕ → X → Type 0) (p c : ℕ) (E G : X) → P p E → Here p E c G → P c G
 here P p c E G h (u, v) = rw (u, v) h
-
-module _ (t : Table) where
-  -- c is met by reading on from p
-  pub data Chain : ℕ → ℕ → Type 0 where
-    stay : {p : ℕ} → Chain p p
-    on : {p c : ℕ} → Chain (p + lengthOf (t .rec p)) c → Chain p c
-
-  pub chain-le : {p c : ℕ} → Chain p c → p ≤ c
-  chain-le {p = p} stay = le-refl p
-  chain-le {c = c} (on {p = p} h) = omega (arith, length-pos (t .rec p), chain-le h)
-
-  pub chain-trans : {p q c : ℕ} → Chain p q → Chain q c → Chain p c
-  chain-trans stay k = k
-  chain-trans (on h) k = on (chain-trans h k)
-
-  -- past a record of known kind
-  past : {c : ℕ} (p : ℕ) (i : Record) → t .rec p ≡ i → Chain (p + lengthOf i) c → Chain (p + lengthOf (t .rec p)) c
-  past {c = c} p i e h = rw e h
-
-  -- c is this record, or met after it
-  pub meet : {c : ℕ} (p : ℕ) (i : Record) → t .rec p ≡ i → Chain p c → (c ≡ p) ⊎ Chain (p + lengthOf i) c
-  meet p i e stay = inl refl
-  meet {c = c} p i e (on h) = inr (rw e at h)
 
 module _ (t : Table) (R : Rules) where
   -- how deep the blocks of a derivation are nested

@@ -10,6 +10,7 @@ use lib.Dec.{leb}
 use Rattle.model.specs.Tests.{pick, test, same}
 use Rattle.model.specs.Levels.{Env, Covers, Within}
 use Rattle.model.specs.Records.{simpleLength, SimpleReaches, Reaches}
+use Rattle.model.specs.Sites.{site}
 use Rattle.model.specs.Table.{Table}
 use Rattle.model.specs.declared.Status.{Status}
 use Rattle.model.specs.declared.Status.the-variants.{Unknown, Updated, Outdated}
@@ -138,7 +139,7 @@ module _ (t : Table) (at : ℕ → ℕ → Env → Type 0) where
       fork-same r p q (Branch true) e u v = rw (public t E (c .mis) x y h r e) (refl, refl, arrive f (guarded E r true) _ x y u fs (fork-alike t E (c .mis) x y h r true e))
       fork-same r p q (Branch false) e u v = rw (public t E (c .mis) x y h r e) (refl, refl, arrive f (guarded E r false) _ x y v fs (fork-alike t E (c .mis) x y h r false e))
 
-      back-same : (dir : Directive) → Within (t .registers) (t .arrays) E (t .leave f) → ((q : ℕ) (m : Bool) → t .site (c .place) q ≡ some m → Site t (typing t) at f q m) → SameStep (back t c dir x) (back t c dir y)
+      back-same : (dir : Directive) → Within (t .registers) (t .arrays) E (t .leave f) → ((q : ℕ) (m : Bool) → site t (c .place) q ≡ some m → Site t (typing t) at f q m) → SameStep (back t c dir x) (back t c dir y)
       back-same Plain w sites = refl
       back-same (Branch b) w sites = refl
       back-same (Stray a i) w sites = refl
@@ -147,17 +148,17 @@ module _ (t : Table) (at : ℕ → ℕ → Env → Type 0) where
           left : Alike t (t .leave f) (c .mis) x y
           left = weaken t E (t .leave f) (c .mis) x y w h
 
-          lost : (o : Option Bool) → t .site (c .place) q ≡ o → SameStep (wrong t o q x) (wrong t o q y)
+          lost : (o : Option Bool) → site t (c .place) q ≡ o → SameStep (wrong t o q x) (wrong t o q y)
           lost none e = refl
           lost (some m) e =
               let s : Site t (typing t) at f q m = sites q m e in
               (refl, refl, arrive (s .caller) (afterOf t (Call f m) (s .env)) _ _ _ (site-to f q m s) tt (wrong-alike t f m (c .mis) (s .env) x y left))
 
           by : (st : List ℕ) → Frames t (typing t) at f st → SameStep (right t (pop st q) q c x) (right t (pop st q) q c y)
-          by [] g = lost (t .site (c .place) q) refl
+          by [] g = lost (site t (c .place) q) refl
           by (p ∷ ps) (m, s, g) = same p q (λ b. SameStep (right t (pick b (some ps) none) q c x) (right t (pick b (some ps) none) q c y))
               (λ e. (refl, refl, arrive (s .caller) (afterOf t (Call f m) (s .env)) _ x y (rw (← e) (site-to f p m s)) g (weaken t (t .leave f) _ (c .mis) x y (leave-within t f m (s .env)) left)))
-              (λ _. lost (t .site (c .place) q) refl)
+              (λ _. lost (site t (c .place) q) refl)
 
       step-by : (i : Record) (dir : Directive) → t .rec (c .place) ≡ i → at f (c .place) E → Flow t (typing t) at f (c .place) E i → SameStep (stepOf t i c dir x) (stepOf t i c dir y)
       step-by (Do s) dir r a w = simple-same s dir (subst (Reaches (t .words)) r (t .reaches (c .place))) (w .0) (w .1)

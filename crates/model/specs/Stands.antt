@@ -8,6 +8,7 @@ use mathlib.Core.Option.{Option, none, some}
 use lib.ListN.{length}
 use lib.Dec.{leb}
 use Rattle.model.specs.Tests.{pick, test, same}
+use Rattle.model.specs.Sites.{site}
 use Rattle.model.specs.Table.{Table}
 use Rattle.model.specs.declared.Record.{Record}
 use Rattle.model.specs.declared.Record.the-variants.{Do, Call, If, Else, Endif, While, Endwhile, Return}
@@ -54,20 +55,20 @@ module _ (t : Table) (reads : Reads t) where
     fork-stands v p q (Stray i j) x a b = tt
     fork-stands v p q (Back k) x a b = tt
 
-    back-stands : (dir : Directive) (x : Data) → ((q : ℕ) (m : Bool) → t .site (c .place) q ≡ some m → Site t reading Place f q m) → StepStands (back t c dir x)
+    back-stands : (dir : Directive) (x : Data) → ((q : ℕ) (m : Bool) → site t (c .place) q ≡ some m → Site t reading Place f q m) → StepStands (back t c dir x)
     back-stands Plain x sites = tt
     back-stands (Branch b) x sites = tt
     back-stands (Stray a i) x sites = tt
     back-stands (Back q) x sites = by (c .stack) fs
       where
-        lost : (o : Option Bool) → t .site (c .place) q ≡ o → StepStands (wrong t o q x)
+        lost : (o : Option Bool) → site t (c .place) q ≡ o → StepStands (wrong t o q x)
         lost none e = tt
         lost (some m) e = record { function = sites q m e .caller; here = site-on f q m (sites q m e); frames = tt }
 
         by : (st : List ℕ) → Frames t reading Place f st → StepStands (right t (pop st q) q c x)
-        by [] g = lost (t .site (c .place) q) refl
+        by [] g = lost (site t (c .place) q) refl
         by (p ∷ ps) (m, s, g) = same p q (λ b. StepStands (right t (pick b (some ps) none) q c x))
-            (λ e. record { function = s .caller; here = rw (← e) (site-on f p m s); frames = g }) (λ _. lost (t .site (c .place) q) refl)
+            (λ e. record { function = s .caller; here = rw (← e) (site-on f p m s); frames = g }) (λ _. lost (site t (c .place) q) refl)
 
     step-by : (i : Record) (dir : Directive) (x : Data) → t .rec (c .place) ≡ i → Place f (c .place) tt → Flow t reading Place f (c .place) tt i → StepStands (stepOf t i c dir x)
     step-by (Do s) dir x r a w = onward-stands (work t s dir (c .mis) x) _ (stay _ (w .1))

@@ -1,9 +1,7 @@
--- A table as its reader sees it: the record at each place, the sizes, the signatures, the call sites.
+-- A table as its reader sees it: the record at each place, the sizes, the signatures.
 use Prim.Native.Nat.{ℕ, _-_}
 use mathlib.Core.Path.{_≡_}
-use mathlib.Core.Bool.{Bool}
 use mathlib.Core.List.{List}
-use mathlib.Core.Option.{Option}
 use lib.ListN.{length}
 use Rattle.model.specs.Levels.{Env}
 use Rattle.model.specs.Records.{Fits, Reaches, Keeps}
@@ -23,7 +21,7 @@ pub record Table : Type 0 where
   pub ret : ℕ → ℕ  -- of a function: its RETURN
   pub enter : ℕ → Env  -- of a function: its in-environment
   pub leave : ℕ → Env  -- of a function: its out-environment
-  pub site : ℕ → ℕ → Option Bool  -- of a function and a place: the mark, if the place follows a CALL of the function
+  pub size : ℕ  -- the table's bytes: the code ends there
 
 -- the last function
 abbrev pub entry : Table → ℕ

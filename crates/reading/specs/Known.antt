@@ -4,14 +4,11 @@ use native.Mathlib.Omega.{arith}
 use mathlib.Core.Path.{_≡_, refl, sym, ap, subst, _∙_}
 use mathlib.Core.List.{List, [], _∷_}
 use mathlib.Core.Bool.{Bool, true, false, true≢false}
-use mathlib.Core.Option.{some}
 use lib.ListN.{length}
 use lib.Dec.{ltb, leb, eqb}
 use borrow.Author.Tests.{eq-eqb, le-leb}
 use Rattle.model.specs.Tests.{all, pick-ind, trues}
 use Rattle.model.specs.Packing.{packedIn}
-use Rattle.model.specs.Sites.{scan}
-use Rattle.model.specs.Scans.{scan-called, ret-alone, home-own}
 use Rattle.model.specs.Table.{entry}
 use Rattle.model.specs.Blocks.{Every}
 use Rattle.model.specs.Rules.{reading}
@@ -173,7 +170,5 @@ module _ (t : List ℕ) where
         some-function = last;
         fresh = rw status;
         blocks = blocks;
-        alone = λ f k q. ret-alone (tableOf t) (length t) blocks (touches t y e) f (entry (tableOf t)) k last q;
-        sites = λ f q m k h. scan-called (tableOf t) (length t) blocks (touches t y e) (length t) f q m some-function
-            (subst (λ (g : ℕ). scan (tableOf t .rec) (length t) (length t) (tableOf t .start 0) g q ≡ some m) (home-own (tableOf t) (length t) blocks (touches t y e) (z .functions) f k (omega arith)) h);
+        touch = touches t y e;
       }

@@ -16,7 +16,7 @@ use Rattle.model.specs.Table.{Table}
 use Rattle.model.specs.Blocks.{Types, done, one, branch, loop}
 use Rattle.model.specs.Rules.{reading, Lower}
 use Rattle.model.specs.Places.{nesting}
-use Rattle.model.specs.Scans.{edge}
+use Rattle.model.specs.Functions.{edge}
 use Rattle.model.specs.Typing.{Read}
 use Rattle.model.specs.declared.Sizes.{Sizes}
 use Rattle.model.specs.declared.Packed.{Packed}
@@ -24,10 +24,10 @@ use Rattle.model.specs.declared.Record.{Record}
 use Rattle.model.specs.declared.Record.the-variants.{Do, Call, If, Else, Endif, While, Endwhile, Return}
 use Rattle.model.specs.declared.Walked.{Walked}
 use Rattle.model.specs.declared.Walked.the-variants.{Next, Shut, Fault}
-use Rattle.format.specs.Format.{byte, word16, decodeAt}
+use Rattle.format.specs.Format.{word16}
 use Rattle.format.specs.Head.{then, sizesAt, arraysAt, signaturesAt}
 use Rattle.format.specs.Laws.{kindOf, Names, good}
-use Rattle.format.specs.Layout.{sizesOf, startOf, recordFrom, recordOf, returnOf, tableOf}
+use Rattle.format.specs.Layout.{sizesOf, startOf, record-got, returnOf, tableOf}
 use Rattle.format.specs.declared.Decoded.{Decoded}
 use Rattle.format.specs.declared.Decoded.the-variants.{Got, Bad}
 use Rattle.format.specs.declared.To.{To}
@@ -36,11 +36,6 @@ use Rattle.reading.specs.declared.Answer.{Answer}
 use Rattle.reading.specs.declared.Answer.the-variants.{Reads, Refused}
 use Rattle.reading.specs.Reading.{onRecord, onNext, onShut, recordAt, callAt, met, ifWith, whileWith, readWith, blockWith, instrAt, blockAt, functionAt, functionsAt, partsAt, answered, readAt}
 use Rattle.reading.specs.Steps.{Closing, GoodAt, record-good, closing}
-
--- the record decoded at a place is the table's record there
-record-is : (z : Sizes) (t : List ℕ) (p : ℕ) {r : Record} {n : ℕ} → decodeAt z t p ≡ Got r n → recordOf z t p ≡ r
-unfolding recordOf
-record-is z t p e = ap recordFrom e
 
 -- a closing record, by its kind
 abbrev ByKind : List ℕ → ℕ → ℕ → Record → Type 0
@@ -69,7 +64,7 @@ module _ (t : List ℕ) (g : ℕ) where
   Block d p q = (b : Types T reading g p tt q tt) × (nesting T reading b ≤ d)
 
   closing-is : (c p : ℕ) → Closing z t c p → ByKind t p c (T .rec p)
-  closing-is c p k = rw (record-is z t p (k .is)) (by-kind t p c (k .with) (k .closes) (k .kind) (k .names))
+  closing-is c p k = rw (record-got z t p (k .is)) (by-kind t p c (k .with) (k .closes) (k .kind) (k .names))
 
   -- what a record's reading has found out, a block's, and that of a block inside a record
   abbrev Found : ℕ → ℕ → ℕ → Walked → Type 0
@@ -160,7 +155,7 @@ module _ (t : List ℕ) (g : ℕ) where
 
     decoded-found : (w : Decoded) → GoodAt z t c p w → Found d c p (onRecord Fault w (readWith B g t p))
     decoded-found (Got r n) k =
-        rw (good z t p (k .0) .next) (read-found r (record-is z t p (k .0)) (closing z t c p n r k))
+        rw (good z t p (k .0) .next) (read-found r (record-got z t p (k .0)) (closing z t c p n r k))
     decoded-found (Bad n q) k = tt
 
   instr-found : (d c p : ℕ) → Found d c p (instrAt d g z t c p)
@@ -285,7 +280,7 @@ module _ (t : List ℕ) where
       }
 
   -- functions touch: each begins one byte after the RETURN of the one before, and the last RETURN ends the table
-  pub touches : (y : Sizes) → readAt t ≡ Reads y → (g : ℕ) → g < zs .functions → edge (tableOf t) (length t) (suc g) ≡ returnOf zs t g + 1
+  pub touches : (y : Sizes) → readAt t ≡ Reads y → (g : ℕ) → g < zs .functions → edge (tableOf t) (suc g) ≡ returnOf zs t g + 1
   unfolding returnOf
   touches y e g l =
       let (p, b, q) = subst AnswerRead e answer-read .1 g l in

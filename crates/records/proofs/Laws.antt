@@ -6,7 +6,7 @@ use mathlib.Core.Bool.{false}
 use mathlib.Core.List.{List, [], _∷_}
 use lib.ListN.{length}
 use lib.Dec.{eqb, ltb}
-use borrow.Author.Tests.{lt-ltb, le-ltb, lt-leb}
+use borrow.Author.Tests.{lt-ltb, le-ltb, le-leb, lt-leb}
 use Rattle.model.specs.Tests.{pick, test}
 use Rattle.model.specs.Records.{lengthOf, length-pos}
 use Rattle.model.specs.declared.Sizes.{Sizes}
@@ -50,6 +50,10 @@ short t at k (r ∷ rs) h =
     (λ _ e. simp lt-ltb)
     (λ _ e. short t at k rs e)
     h
+
+pub decode-past : (z : Sizes) (t : List ℕ) (at : ℕ) → length t ≤ at → decodeAt z t at ≡ Bad 2 at
+unfolding decodeAt
+decode-past z t at l = rw (le-leb (length t) at l) refl
 
 pub decode-none : (z : Sizes) (t : List ℕ) (at : ℕ) → at < length t → codeLength (byte t at) ≡ 0 → decodeAt z t at ≡ Bad 3 at
 unfolding codeLength rowAt decodeAt

@@ -15,6 +15,13 @@ ghost use Prim.Native.Nat.{_+_, _≤_, _<_};
 ghost use lib.ListN.{length};
 ghost use lib.Dec.{ltb};
 ghost use Rattle.format.specs.Format.{codeLength, wordsAt, decodeAt, rowAt};
+ghost use Rattle.format.specs.Layout.{recordOf, nextOf};
+
+// A record of the code, and where the next one is due.
+pub struct Met {
+    pub record: Record,
+    pub next: usize,
+}
 
 // The length of a record of code, the kind byte counted; 0 where no code has that kind.
 pub fn code_length(kind: u8) -> usize
@@ -337,6 +344,27 @@ pub fn decode(t: &[u8], at: usize, z: Sizes) -> Decoded
         return Decoded::Bad(2, at);
     }
     fields(t, at, z, kind)
+}
+
+// The record at a place, for loops over the code. Where none can be read, RETURN stands for it; from the table's end on, the place
+// itself is the next.
+pub fn record_at(t: &[u8], at: usize, z: Sizes) -> Met
+    ensures { λ r. ⌜ (r .record ≡ recordOf z (now (t .entry)) at) × (r .next ≡ nextOf z (now (t .entry)) at) ⌝ }
+{
+    if t.len() <= at {
+        return Met {
+            record: Record::Return,
+            next: at,
+        };
+    }
+    let d = decode(t, at, z);
+    match d {
+        Decoded::Bad(n, p) => Met {
+            record: Record::Return,
+            next: at + 1,
+        },
+        Decoded::Got(record, next) => Met { record, next },
+    }
 }
 
 // The fields of a record that is whole.

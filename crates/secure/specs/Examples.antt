@@ -13,7 +13,8 @@ use Rattle.model.specs.Rules.{kill, guardStatus, callStatus, settle, beside}
 use Rattle.model.specs.Walk.{blockWith as typeBlock, instrAt as typeInstr, functionAt as typeFunction}
 use Rattle.model.specs.Typing.{typeFrom}
 use Rattle.model.specs.Memory.{offsetIn}
-use Rattle.model.specs.Sites.{scan, homeOf}
+use Rattle.model.specs.InOrder.{upTo, codeFrom}
+use Rattle.model.specs.Sites.{homeOf, site}
 use Rattle.model.specs.Machine.{operate, access, step, run}
 use Rattle.format.specs.Format.{rowAt, decodeAt, wordsFrom}
 use Rattle.format.specs.Head.{sizesAt, arrayAt, signatureAt, arraysAt, signaturesAt}
@@ -101,5 +102,5 @@ runs =
     []
 
 pub all-run : Right runs
-unfolding below slot levelsIn packedIn rowAt decodeAt sizesAt arrayAt signatureAt arraysAt signaturesAt wordsFrom recordOf returnOf allowed recordAt callAt ifWith whileWith blockWith instrAt blockAt functionAt functionsAt partsAt readAt offsetIn scan homeOf operate access step run directiveAt branchAt strayAt backAt listFrom listAt directivesFrom allBytes total runAt
+unfolding below slot levelsIn packedIn rowAt decodeAt sizesAt arrayAt signatureAt arraysAt signaturesAt wordsFrom recordOf returnOf allowed recordAt callAt ifWith whileWith blockWith instrAt blockAt functionAt functionsAt partsAt readAt offsetIn upTo codeFrom homeOf site operate access step run directiveAt branchAt strayAt backAt listFrom listAt directivesFrom allBytes total runAt
 all-run = (refl, (refl, (refl, (refl, tt))))

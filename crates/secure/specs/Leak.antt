@@ -15,7 +15,8 @@ use Rattle.model.specs.Rules.{kill, guardStatus, callStatus, settle, beside, gu
 use Rattle.model.specs.Walk.{blockWith as typeBlock, instrAt as typeInstr, functionAt as typeFunction}
 use Rattle.model.specs.Typing.{typeFrom}
 use Rattle.model.specs.Memory.{offsetIn}
-use Rattle.model.specs.Sites.{scan, homeOf}
+use Rattle.model.specs.InOrder.{upTo, codeFrom}
+use Rattle.model.specs.Sites.{homeOf, site}
 use Rattle.model.specs.Machine.{operate, access, step, run}
 use Rattle.model.specs.declared.Simple.{Simple}
 use Rattle.model.specs.declared.Simple.the-variants.{Const, Op, Select, Load, Store, Init, Update, Protect, LoadFixed, StoreFixed}
@@ -82,7 +83,7 @@ Shows secret = leaked secret ≡ ran (Stopped (record { number = 21; place = 48;
     (113 ∷ 1 ∷ 114 ∷ 0 ∷ 1 ∷ 0 ∷ 0 ∷ 0 ∷ 114 ∷ 1 ∷ 0 ∷ 0 ∷ 0 ∷ 0 ∷ 114 ∷ 0 ∷ secret ∷ 0 ∷ 0 ∷ 0 ∷ 112 ∷ [])
 
 pub both-show : Shows 5 × Shows 6
-unfolding below slot levelsIn packedIn rowAt decodeAt sizesAt arrayAt signatureAt arraysAt signaturesAt wordsFrom recordOf returnOf allowed recordAt callAt ifWith whileWith blockWith instrAt blockAt functionAt functionsAt partsAt readAt offsetIn scan homeOf operate access step run directiveAt branchAt strayAt backAt listFrom listAt directivesFrom allBytes total runAt
+unfolding below slot levelsIn packedIn rowAt decodeAt sizesAt arrayAt signatureAt arraysAt signaturesAt wordsFrom recordOf returnOf allowed recordAt callAt ifWith whileWith blockWith instrAt blockAt functionAt functionsAt partsAt readAt offsetIn upTo codeFrom homeOf site operate access step run directiveAt branchAt strayAt backAt listFrom listAt directivesFrom allBytes total runAt
 both-show = (refl, refl)
 
 -- the two starts differ in the secret register alone

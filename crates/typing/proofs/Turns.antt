@@ -19,14 +19,11 @@ use Rattle.model.specs.declared.Sizes.{Sizes}
 use Rattle.model.specs.declared.Packed.{Packed}
 use Rattle.model.specs.declared.Simple.{Simple}
 use Rattle.model.specs.declared.Record.{Record}
-use Rattle.model.specs.declared.Record.the-variants.{Return}
 use Rattle.model.specs.declared.Walked.{Walked}
 use Rattle.model.specs.declared.Walked.the-variants.{Next, Shut, Fault}
 use Rattle.model.specs.declared.Typing.{Typing}
 use Rattle.model.specs.declared.Typing.the-variants.{Passes, Fault as Refused}
-use Rattle.format.specs.Format.{decodeAt}
-use Rattle.format.specs.Layout.{recordFrom, recordOf, inOf, outOf, startOf}
-use Rattle.format.specs.declared.Decoded.the-variants.{Got, Bad}
+use Rattle.format.specs.Layout.{recordOf, inOf, outOf, startOf}
 use Rattle.typing.specs.declared.Walk.{Walk}
 use Rattle.typing.specs.Envs.{viewEnv, Fit, Ready}
 use Rattle.typing.specs.Walks.{going, viewWalk, Close, bare, simpleWalk, backWalk, joinWalk, callWalk, table, size, recordWalk, blockWalk, ifWalk, whileWalk, functionWalk}
@@ -71,15 +68,6 @@ back-on z r L p E {F} m f = subst (λ (b : Bool). Onward (p + 3) F ≡ pick b (O
 
 pub back-out : (z : Sizes) (r : ℕ) (L : Packed) (p : ℕ) (E : Environment) → within (z .registers) (z .arrays) E (envOf L) ≡ false → Halt 12 p ≡ backWalk z r L (Closed p E)
 back-out z r L p E m = subst (λ (b : Bool). Halt 12 p ≡ pick b (Onward (p + 3) (guarded (envOf L) r false)) (Halt 12 p)) (sym m) refl
-
--- whatever was decoded; where nothing was, RETURN
-pub record-got : (z : Sizes) (t : List ℕ) (at : ℕ) {r : Record} {n : ℕ} → decodeAt z t at ≡ Got r n → recordOf z t at ≡ r
-unfolding recordOf
-record-got z t at e = ap recordFrom e
-
-pub record-bad : (z : Sizes) (t : List ℕ) (at : ℕ) {n p : ℕ} → decodeAt z t at ≡ Bad n p → recordOf z t at ≡ Return
-unfolding recordOf
-record-bad z t at e = ap recordFrom e
 
 module _ (z : Sizes) (t : List ℕ) where
   -- a CALL

@@ -1,8 +1,8 @@
 use Rattle.machine.specs.States.{ctlOf, dataOf}
-use Rattle.model.specs.Sites.{scan}
+use Rattle.model.specs.InOrder.{code}
+use Rattle.model.specs.Sites.{markIn, site}
 use Rattle.model.specs.Machine.{wrong}
-use Rattle.format.specs.Layout.{startOf, recordOf, tableWith}
-use lib.ListN.{length}
+use Rattle.format.specs.Layout.{tableWith}
 use mathlib.Core.Path.{sym, ap, _∙_}
 use mathlib.Core.Option.{Option}
 use mathlib.Core.Bool.{Bool}
@@ -45,11 +45,12 @@ astray-requires : tie.Need-astray-requires
 astray-requires c κs = search needs
 
 returns-2 : tie.Need-returns-2
+unfolding site
 returns-2 c =
     let a = c .before .before .before .before .before .before .args in
     let t = a .t .now in
     let T = tableWith (a .z) t in
-    let site = c .before .site-of .ensures ∙ ap (λ (f : ℕ). scan (recordOf (a .z) t) (length t) (length t) (startOf (a .z) t 0) f (a .q)) (c .before .before .home .ensures) in
+    let site = c .before .site-of .ensures ∙ ap (λ (f : ℕ). markIn (code T) f (a .q)) (c .before .before .home .ensures) in
     (λ m n. c .astray .ensures .0 T m n ∙ ap (λ (o : Option Bool). wrong T o (a .q) (dataOf (a .s) m n)) site ∙ right-lost T (a .q) (ctlOf (a .s)) (dataOf (a .s) m n) (sym (c .before .before .before .before .top-is .ensures) ∙ c .before .before .before .if1 .left), c .astray .ensures .1)
 
 pub back-to-spec : {M : Type 1} → statement M

@@ -1,11 +1,11 @@
 use Rattle.model.specs.Machine.{onward, work, to, pass, fork, reg}
 use Rattle.machine.specs.States.{ctlOf, dataOf, called}
 use Rattle.format.specs.Laws.{good}
-use Rattle.format.specs.Layout.{tableWith}
+use Rattle.format.specs.Layout.{record-bad, tableWith}
 use mathlib.Core.Path.{sym, ap, _∙_}
 use Prim.Native.Nat.{ℕ, _+_}
 use native.Mathlib.Omega.{arith}
-use Rattle.machine.proofs.Planning.{small-16, record-bad, known, step-is, step-got}
+use Rattle.machine.proofs.Planning.{small-16, known, step-is, step-got}
 use borrow.Author.Needs.{needs}
 use Rattle.machine.proofs.plans.plan.Statement.{statement}
 use Rattle.machine.proofs.plans.plan.Tie as tie

@@ -18,7 +18,8 @@ use Rattle.model.specs.Whole.{NoThrees, no-threes, packed-whole, where-map}
 use Rattle.typing.specs.Walks.{viewWalk, simpleWalk, callWalk, joinWalk, backWalk, size, blockWalk}
 use Rattle.typing.specs.Envs.{viewEnv, Fit}
 use Rattle.typing.proofs.Ready.{moved}
-use Rattle.typing.proofs.Turns.{arrived, halts, at-shut, guarded-fit, next-fit, walk-fit, within-packed, record-got, record-bad, record-is, if-private, if-deep, if-is, while-out, while-private, while-deep, while-is, shut-near, block-close, next-ok, turn-next, turn-shut, turn-fault}
+use Rattle.format.specs.Layout.{record-got, record-bad}
+use Rattle.typing.proofs.Turns.{arrived, halts, at-shut, guarded-fit, next-fit, walk-fit, within-packed, record-is, if-private, if-deep, if-is, while-out, while-private, while-deep, while-is, shut-near, block-close, next-ok, turn-next, turn-shut, turn-fault}
 use Rattle.typing.proofs.walks.block.Reads as block
 use Rattle.typing.proofs.walks.block.Kinds as block-kinds
 use Rattle.typing.proofs.walks.+block+branch+one+repeat.Lts-block as block-lts
