@@ -1,16 +1,22 @@
 // Document 01, "The machine": a run of a table under a directive list.
+mod accesses;
+mod bytes;
+mod control;
+mod makers;
+mod memory;
+mod plans;
+mod returns;
+mod simple_records;
+mod states;
+mod steps;
+mod values;
+
 use model::Directive;
 use model::Observation;
 use model::Sizes;
 use reading::Answer;
 ghost use mathlib.Core.Path.{_≡_};
 ghost use Rattle.machine.specs.Runs.{ran, runAt};
-
-mod bytes;
-mod memory;
-mod plans;
-mod states;
-mod steps;
 
 // A directive with the place after it in the list, or a bad one.
 pub enum Told {

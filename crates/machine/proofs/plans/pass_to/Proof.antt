@@ -4,7 +4,7 @@ use Rattle.machine.proofs.plans.pass_to.Statement.{statement}
 use Rattle.machine.proofs.plans.pass_to.Tie as tie
 use Rattle.machine.proofs.plans.pass_to.Reads as reads
 use Rattle.machine.proofs.plans.pass_to.Lts as lts
-use Rattle.machine.proofs.plans.plain_to.Reads as plain-to-reads
+use Rattle.machine.proofs.makers.plain_to.Reads as plain-to-reads
 
 plain-to-requires : tie.Need-plain-to-requires
 plain-to-requires c κs = search needs

@@ -14,11 +14,11 @@ use Rattle.machine.proofs.plans.plan.Lts as lts
 use Rattle.layout.proofs.start_of.Reads as start-of-reads
 use Rattle.records.proofs.decode.Reads as decode-reads
 use Rattle.machine.proofs.memory.get.Reads as get-reads
-use Rattle.machine.proofs.plans.call.Reads as call-reads
-use Rattle.machine.proofs.plans.forked.Reads as forked-reads
+use Rattle.machine.proofs.control.call.Reads as call-reads
+use Rattle.machine.proofs.control.forked.Reads as forked-reads
 use Rattle.machine.proofs.plans.pass_to.Reads as pass-to-reads
-use Rattle.machine.proofs.plans.returning.Reads as returning-reads
-use Rattle.machine.proofs.plans.simple.Reads as simple-reads
+use Rattle.machine.proofs.returns.returning.Reads as returning-reads
+use Rattle.machine.proofs.simple_records.simple.Reads as simple-reads
 
 decode-requires : tie.Need-decode-requires
 decode-requires c κs = search needs

@@ -1,0 +1,233 @@
+use Rattle.model.specs.declared.Observation.the-variants.{Nothing}
+use Rattle.model.specs.Records.{SimpleReaches}
+use Rattle.model.specs.Tests.{pick}
+use Rattle.model.specs.Machine.{Stepped, holds, to}
+use Rattle.machine.specs.declared.Effect.the-variants.{None, Register}
+use Rattle.machine.specs.States.{ctlOf, dataOf, plainly}
+use Rattle.format.specs.Format.{wordsFrom}
+use Rattle.format.specs.Layout.{tableWith}
+use mathlib.Core.Path.{ap, subst, _∙_}
+use mathlib.Core.Bool.{Bool, true}
+use Prim.Native.Nat.{ℕ}
+use Rattle.machine.proofs.Planning.{work-of}
+use borrow.Author.Needs.{needs}
+use Rattle.machine.proofs.simple_records.simple.Statement.{statement}
+use Rattle.machine.proofs.simple_records.simple.Tie as tie
+use Rattle.machine.proofs.simple_records.simple.Reads as reads
+use Rattle.machine.proofs.simple_records.simple.Lts as lts
+use Rattle.machine.proofs.memory.get.Reads as get-reads
+use Rattle.machine.proofs.values.condition.Reads as condition-reads
+use Rattle.machine.proofs.simple_records.init.Reads as init-reads
+use Rattle.machine.proofs.simple_records.load.Reads as load-reads
+use Rattle.machine.proofs.simple_records.load_fixed.Reads as load-fixed-reads
+use Rattle.machine.proofs.simple_records.operated.Reads as operated-reads
+use Rattle.machine.proofs.simple_records.selected.Reads as selected-reads
+use Rattle.machine.proofs.simple_records.shielded.Reads as shielded-reads
+use Rattle.machine.proofs.simple_records.store.Reads as store-reads
+use Rattle.machine.proofs.simple_records.store_fixed.Reads as store-fixed-reads
+use Rattle.machine.proofs.simple_records.updated.Reads as updated-reads
+use Rattle.machine.proofs.simple_records.write.Reads as write-reads
+
+enum-known-r : tie.Need-enum-known-r
+enum-known-r c = search needs
+
+write-requires : tie.Need-write-requires
+write-requires c κs = search needs
+
+enum-known-r-2 : tie.Need-enum-known-r-2
+enum-known-r-2 c = search needs
+
+operated-requires : tie.Need-operated-requires
+operated-requires c κs = search needs
+
+write-requires-2 : tie.Need-write-requires-2
+write-requires-2 c κs = search needs
+
+enum-known-r-3 : tie.Need-enum-known-r-3
+enum-known-r-3 c = search needs
+
+selected-requires : tie.Need-selected-requires
+selected-requires c κs = search needs
+
+write-requires-3 : tie.Need-write-requires-3
+write-requires-3 c κs = search needs
+
+enum-known-r-4 : tie.Need-enum-known-r-4
+enum-known-r-4 c = search needs
+
+load-requires : tie.Need-load-requires
+load-requires c κs = search needs
+
+enum-known-r-5 : tie.Need-enum-known-r-5
+enum-known-r-5 c = search needs
+
+store-requires : tie.Need-store-requires
+store-requires c κs = search needs
+
+enum-told : tie.Need-enum-told
+enum-told c = search needs
+
+init-requires : tie.Need-init-requires
+init-requires c κs = search needs
+
+enum-known-r-6 : tie.Need-enum-known-r-6
+enum-known-r-6 c = search needs
+
+cast-get : tie.Need-cast-get
+cast-get c = search needs
+
+get-requires : tie.Need-get-requires
+get-requires c κs = search needs
+
+condition-requires : tie.Need-condition-requires
+condition-requires c κs = search needs
+
+updated-requires : tie.Need-updated-requires
+updated-requires c κs = search needs
+
+enum-known-r-7 : tie.Need-enum-known-r-7
+enum-known-r-7 c = search needs
+
+shielded-requires : tie.Need-shielded-requires
+shielded-requires c κs = search needs
+
+write-requires-4 : tie.Need-write-requires-4
+write-requires-4 c κs = search needs
+
+enum-known-r-8 : tie.Need-enum-known-r-8
+enum-known-r-8 c = search needs
+
+load-fixed-requires : tie.Need-load-fixed-requires
+load-fixed-requires c κs = search needs
+
+enum-known-r-9 : tie.Need-enum-known-r-9
+enum-known-r-9 c = search needs
+
+store-fixed-requires : tie.Need-store-fixed-requires
+store-fixed-requires c κs = search needs
+
+returns : tie.Need-returns
+returns c =
+    let a = c .before .before .before .before .before .before .before .args in
+    let T = tableWith (a .z) (a .t .now) in
+    let X = dataOf (a .s) (a .regs .now) (a .mem .now) in
+    let is = work-of T (a .dir) (a .s .mis) X (to (ctlOf (a .s)) (a .next)) (c .before .before .r .given .1) in
+    (c .write .ensures .0 T X ∙ is, c .write .ensures .1 T)
+
+returns-2 : tie.Need-returns-2
+returns-2 c =
+    let a = c .before .before .before .before .before .before .before .before .args in
+    let T = tableWith (a .z) (a .t .now) in
+    let X = dataOf (a .s) (a .regs .now) (a .mem .now) in
+    let is = work-of T (a .dir) (a .s .mis) X (to (ctlOf (a .s)) (a .next)) (c .before .before .before .r2 .given .1) in
+    let value : ℕ → Stepped = λ v. plainly T (a .dir) (a .s) (a .next) (Register (c .before .before .before .r2 .given .0 .0) v) (a .s .masked) Nothing X in
+    (c .write2 .ensures .0 T X ∙ ap value (c .before .operated .ensures) ∙ is, c .write2 .ensures .1 T)
+
+returns-3 : tie.Need-returns-3
+returns-3 c =
+    let a = c .before .before .before .before .before .before .before .before .args in
+    let T = tableWith (a .z) (a .t .now) in
+    let X = dataOf (a .s) (a .regs .now) (a .mem .now) in
+    let is = work-of T (a .dir) (a .s .mis) X (to (ctlOf (a .s)) (a .next)) (c .before .before .before .r3 .given .1) in
+    let value : ℕ → Stepped = λ v. plainly T (a .dir) (a .s) (a .next) (Register (c .before .before .before .r3 .given .0 .0) v) (a .s .masked) Nothing X in
+    (c .write3 .ensures .0 T X ∙ ap value (c .before .selected .ensures) ∙ is, c .write3 .ensures .1 T)
+
+returns-4 : tie.Need-returns-4
+returns-4 c =
+    let a = c .before .before .before .before .before .before .before .args in
+    let T = tableWith (a .z) (a .t .now) in
+    let X = dataOf (a .s) (a .regs .now) (a .mem .now) in
+    let is = work-of T (a .dir) (a .s .mis) X (to (ctlOf (a .s)) (a .next)) (c .before .before .r4 .given .1) in
+    (c .load .ensures .0 ∙ is, c .load .ensures .1)
+
+returns-5 : tie.Need-returns-5
+returns-5 c =
+    let a = c .before .before .before .before .before .before .before .args in
+    let T = tableWith (a .z) (a .t .now) in
+    let X = dataOf (a .s) (a .regs .now) (a .mem .now) in
+    let is = work-of T (a .dir) (a .s .mis) X (to (ctlOf (a .s)) (a .next)) (c .before .before .r5 .given .1) in
+    (c .store .ensures .0 (a .mem .now) ∙ is, c .store .ensures .1)
+
+returns-6 : tie.Need-returns-6
+returns-6 c =
+    let a = c .before .before .before .before .before .before .args in
+    let T = tableWith (a .z) (a .t .now) in
+    let X = dataOf (a .s) (a .regs .now) (a .mem .now) in
+    let is = work-of T (a .dir) (a .s .mis) X (to (ctlOf (a .s)) (a .next)) (c .before .enum-told .given .1) in
+    (c .init .ensures .0 T (a .regs .now) (a .mem .now) ∙ is, c .init .ensures .1 T)
+
+returns-7 : tie.Need-returns-7
+returns-7 c =
+    let a = c .before .before .before .before .before .before .before .before .before .args in
+    let T = tableWith (a .z) (a .t .now) in
+    let X = dataOf (a .s) (a .regs .now) (a .mem .now) in
+    let is = work-of T (a .dir) (a .s .mis) X (to (ctlOf (a .s)) (a .next)) (c .before .before .before .before .r6 .given .1) in
+    let held = c .before .condition .ensures ∙ ap (λ (v : ℕ). holds v (c .before .before .before .before .r6 .given .0 .1 .0)) (c .before .before .get .ensures) in
+    (c .updated .ensures .0 T X ∙ ap (λ (b : Bool). plainly T (a .dir) (a .s) (a .next) None (pick b (a .s .masked) true) Nothing X) held ∙ is, c .updated .ensures .1 T)
+
+returns-8 : tie.Need-returns-8
+returns-8 c =
+    let a = c .before .before .before .before .before .before .before .before .args in
+    let T = tableWith (a .z) (a .t .now) in
+    let X = dataOf (a .s) (a .regs .now) (a .mem .now) in
+    let is = work-of T (a .dir) (a .s .mis) X (to (ctlOf (a .s)) (a .next)) (c .before .before .before .r7 .given .1) in
+    let value : ℕ → Stepped = λ v. plainly T (a .dir) (a .s) (a .next) (Register (c .before .before .before .r7 .given .0 .0) v) (a .s .masked) Nothing X in
+    (c .write4 .ensures .0 T X ∙ ap value (c .before .shielded .ensures) ∙ is, c .write4 .ensures .1 T)
+
+returns-9 : tie.Need-returns-9
+returns-9 c =
+    let a = c .before .before .before .before .before .before .before .args in
+    let T = tableWith (a .z) (a .t .now) in
+    let X = dataOf (a .s) (a .regs .now) (a .mem .now) in
+    let is = work-of T (a .dir) (a .s .mis) X (to (ctlOf (a .s)) (a .next)) (c .before .before .r8 .given .1) in
+    (c .load-fixed .ensures .0 (a .regs .now) ∙ is, c .load-fixed .ensures .1 T)
+
+returns-10 : tie.Need-returns-10
+returns-10 c =
+    let a = c .before .before .before .before .before .before .before .args in
+    let T = tableWith (a .z) (a .t .now) in
+    let X = dataOf (a .s) (a .regs .now) (a .mem .now) in
+    let is = work-of T (a .dir) (a .s .mis) X (to (ctlOf (a .s)) (a .next)) (c .before .before .r9 .given .1) in
+    let inside = subst (SimpleReaches (wordsFrom (a .z) (a .t .now) (a .z .arrays) 0)) (c .before .before .r9 .given .1) (c .before .before .before .before .before .before .before .pre) in
+    (c .store-fixed .ensures .0 T (a .mem .now) ∙ is, c .store-fixed .ensures .1 T inside)
+
+pub simple-spec : {M : Type 1} → statement M
+simple-spec =
+    tie.close
+    (tie.spec
+    enum-known-r
+    write-requires
+    enum-known-r-2
+    operated-requires
+    write-requires-2
+    enum-known-r-3
+    selected-requires
+    write-requires-3
+    enum-known-r-4
+    load-requires
+    enum-known-r-5
+    store-requires
+    enum-told
+    init-requires
+    enum-known-r-6
+    cast-get
+    get-requires
+    condition-requires
+    updated-requires
+    enum-known-r-7
+    shielded-requires
+    write-requires-4
+    enum-known-r-8
+    load-fixed-requires
+    enum-known-r-9
+    store-fixed-requires
+    returns
+    returns-2
+    returns-3
+    returns-4
+    returns-5
+    returns-6
+    returns-7
+    returns-8
+    returns-9
+    returns-10)
