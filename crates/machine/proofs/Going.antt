@@ -8,6 +8,7 @@ use mathlib.Core.List.{List, [], _∷_, _++_}
 use lib.ListN.{length, set, length-set}
 use lib.Seq.{sets}
 use borrow.Author.Tests.{lt-leb, le-leb}
+use Rattle.model.specs.Memory.{sets-append}
 use Rattle.model.specs.Table.{Table, entry}
 use Rattle.model.specs.Stands.{Stands, step-stands, stack-bound}
 use Rattle.model.specs.Machine.{Ctl, Data, Stepped, Stop, Went, step, size, Final, final, observed, afterStep, ended, run}
@@ -36,10 +37,6 @@ four : {A : Type 0} (f : List ℕ → ℕ → ℕ → ℕ → A) {o o′ : List 
 four f a b c d = λ i. f (a i) (b i) (c i) (d i)
 
 -- ---- bytes written one after another
-pub sets-append : (vs ws l : List ℕ) (i : ℕ) → sets l i (vs ++ ws) ≡ sets (sets l i vs) (i + length vs) ws
-sets-append [] ws l i = let e : i + 0 ≡ i = omega arith in rw e
-sets-append (v ∷ vs) ws l i = let e : i + suc (length vs) ≡ suc i + length vs = omega arith in rw e (sets-append vs ws (set l i v) (suc i))
-
 pub length-sets : (vs l : List ℕ) (i : ℕ) → length (sets l i vs) ≡ length l
 length-sets [] l i = refl
 length-sets (v ∷ vs) l i = length-sets vs (set l i v) (suc i) ∙ length-set l i v

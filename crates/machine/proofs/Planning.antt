@@ -15,6 +15,7 @@ use lib.Pow.{pow-pos}
 use lib.Seq.{getD-set-same, getD-set-other}
 use borrow.Author.Tests.{eq-eqb, ne-eqb, lt-ltb, le-ltb, le-leb, lt-leb, ltb-true}
 use Rattle.model.specs.Tests.{pick, pick-ind}
+use Rattle.model.specs.Alike.{Touches, access-touches}
 use Rattle.model.specs.Table.{Table}
 use Rattle.model.specs.Sites.{homeOf, site}
 use Rattle.model.specs.Machine.{Ctl, Data, reg, wordsOf, wordAt, wrote, stored, flagged, operate, Work, halt, did, Stop, Went, plain, onward, byAccess, pop, inRange, strayed, access, work, wrong, right, stepOf, step}
@@ -148,11 +149,6 @@ operate-7 op a b n0 n1 n2 n3 n4 n5 n6 = rw (ne-eqb op 0 n0, ne-eqb op 1 n1, ne-e
 
 -- ---- accesses
 module _ (t : Table) where
-  -- a word that is touched lies in its array; a stop is not 0
-  abbrev pub Touches : Access → Type 0
-  Touches (At a i) = i < wordsOf t a
-  Touches (Bad n) = eqb n 0 ≡ false
-
   in-yes : (a i : ℕ) (d : Directive) → isPlain d ≡ true → inRange t a i d ≡ At a i
   in-yes a i Plain h = refl
   in-yes a i (Branch b) h = absurd (true≢false (sym h))
@@ -190,30 +186,8 @@ module _ (t : Table) where
   pub stray-out : (a i : ℕ) {d : Directive} → d ≡ Stray a i → a < t .arrays → wordsOf t a ≤ i → Bad 25 ≡ strayed t d
   stray-out a i e h l = rw (e, lt-ltb a (t .arrays) h, le-ltb i (wordsOf t a) l) refl
 
-  in-touches : (a i : ℕ) (d : Directive) → i < wordsOf t a → Touches (inRange t a i d)
-  in-touches a i Plain l = l
-  in-touches a i (Branch b) l = refl
-  in-touches a i (Stray b j) l = refl
-  in-touches a i (Back q) l = refl
-
-  both : (a b : Bool) → a && b ≡ true → b ≡ true
-  both true b h = h
-  both false b h = absurd (true≢false (sym h))
-
-  stray-touches : (d : Directive) → Touches (strayed t d)
-  stray-touches Plain = refl
-  stray-touches (Branch b) = refl
-  stray-touches (Stray b j) = pick-ind Touches (ltb b (t .arrays) && ltb j (wordsOf t b)) (λ h. ltb-true j (wordsOf t b) (both (ltb b (t .arrays)) (ltb j (wordsOf t b)) h)) (λ _. refl)
-  stray-touches (Back q) = refl
-
-  pub access-touches : (a i : ℕ) (mis : Bool) (d : Directive) → Touches (access t a i mis d)
-  unfolding access
-  access-touches a i mis d =
-      pick-ind Touches (ltb i (wordsOf t a)) (λ h. in-touches a i d (ltb-true i (wordsOf t a) h))
-      (λ _. pick-ind Touches mis (λ _. stray-touches d) (λ _. refl))
-
-  pub touched : (a i : ℕ) (mis : Bool) (d : Directive) {r : Access} → access t a i mis d ≡ r → Touches r
-  touched a i mis d e = subst Touches e (access-touches a i mis d)
+  pub touched : (a i : ℕ) (mis : Bool) (d : Directive) {r : Access} → access t a i mis d ≡ r → Touches t a mis r
+  touched a i mis d e = subst (Touches t a mis) e (access-touches t a i mis d)
 
   -- LOAD and STORE
   pub load-bad : (u : State) (p : Plan) (x : Data) (c : Ctl) (d a i n : ℕ) (mis : Bool) (dir : Directive) → access t a (reg x i) mis dir ≡ Bad n → p .stop ≡ n

@@ -11,7 +11,7 @@ use crate::values::condition;
 use crate::values::is_true;
 use model::Directive;
 use model::Observation;
-ghost use mathlib.Core.Bool.{true, not};
+ghost use mathlib.Core.Bool.{true, not, _||_};
 ghost use mathlib.Core.List.{List};
 ghost use mathlib.Core.Path.{_≡_};
 ghost use Prim.Native.Nat.{ℕ, _%_, _<_};

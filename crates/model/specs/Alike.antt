@@ -7,7 +7,7 @@ use mathlib.Core.Bool.{Bool, true, false, _&&_, true≢false}
 use mathlib.Core.List.{List}
 use lib.ListN.{length, set, length-set, List·getD-eq-default}
 use lib.Seq.{getD-set-other}
-use lib.Dec.{T, ltb, ltb→lt, lt→ltb}
+use lib.Dec.{T, eqb, ltb, ltb→lt, lt→ltb}
 use native.Mathlib.Decide.{decLt}
 use native.Mathlib.Nat.{not-suc-le-zero}
 use Rattle.model.specs.Tests.{pick, put, same, put-same, test}
@@ -160,28 +160,28 @@ beside-source m l b v k = test (ltb b m) (λ x. pick x (max v (spilled l)) v ≤
 
 -- ---- the records
 module _ (t : Table) where
-  -- an access touches a word in range; on the right path, of the array asked for
-  abbrev Touches : ℕ → Bool → Access → Type 0
+  -- an access touches a word in range; on the right path, of the array asked for. A stop is not 0
+  abbrev pub Touches : ℕ → Bool → Access → Type 0
   Touches a mis (Word b j) = (mis ≡ false → b ≡ a) × (j < wordsOf t b)
-  Touches a mis (Bad k) = Unit {0}
+  Touches a mis (Bad k) = eqb k 0 ≡ false
 
-  access-touches : (a i : ℕ) (mis : Bool) (dir : Directive) → Touches a mis (access t a i mis dir)
+  pub access-touches : (a i : ℕ) (mis : Bool) (dir : Directive) → Touches a mis (access t a i mis dir)
   unfolding access
   access-touches a i mis dir = test (ltb i (wordsOf t a)) (λ b. Touches a mis (pick b (inRange t a i dir) (pick mis (strayed t dir) (Bad 24)))) (λ e. near dir (ltb→lt i (wordsOf t a) (rw e tt))) (λ _. far mis dir)
     where
       near : (dir : Directive) → i < wordsOf t a → Touches a mis (inRange t a i dir)
       near Plain l = (λ _. refl, l)
-      near (Branch b) l = tt
-      near (Stray b j) l = tt
-      near (Back q) l = tt
+      near (Branch b) l = refl
+      near (Stray b j) l = refl
+      near (Back q) l = refl
 
       far : (mis : Bool) (dir : Directive) → Touches a mis (pick mis (strayed t dir) (Bad 24))
-      far false dir = tt
-      far true Plain = tt
-      far true (Branch b) = tt
+      far false dir = refl
+      far true Plain = refl
+      far true (Branch b) = refl
       far true (Stray b j) = test (ltb b (t .arrays)) (λ z. Touches a true (pick (z && ltb j (wordsOf t b)) (Word b j) (Bad 25)))
-          (λ _. test (ltb j (wordsOf t b)) (λ z. Touches a true (pick z (Word b j) (Bad 25))) (λ e. (λ q. absurd (true≢false q), ltb→lt j (wordsOf t b) (rw e tt))) (λ _. tt)) (λ _. tt)
-      far true (Back q) = tt
+          (λ _. test (ltb j (wordsOf t b)) (λ z. Touches a true (pick z (Word b j) (Bad 25))) (λ e. (λ q. absurd (true≢false q), ltb→lt j (wordsOf t b) (rw e tt))) (λ _. refl)) (λ _. refl)
+      far true (Back q) = refl
 
   module _ (E : Env) (mis : Bool) (x y : Data) (h : Alike t E mis x y) (dir : Directive) where
     const-works : (d v : ℕ) → Works t (after (t .arrays) (Const d v) E) mis (work t (Const d v) dir mis x) (work t (Const d v) dir mis y)

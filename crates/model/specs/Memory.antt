@@ -1,11 +1,11 @@
--- Lists changed at one place in two runs, and arrays that lie one after another.
+-- Lists changed at one place in two runs, what is written one after another, and arrays that lie so.
 use Prim.Native.Nat.{ℕ, zero, suc, _+_, _<_, _≤_}
 use native.Mathlib.Omega.{arith}
 use native.Mathlib.Decide.{ℕ-discrete, decLt}
 use mathlib.Core.Path.{_≡_, refl, sym, _∙_, ap}
-use mathlib.Core.List.{List, [], _∷_}
+use mathlib.Core.List.{List, [], _∷_, _++_}
 use lib.ListN.{length, getD, set, List·getD-eq-default}
-use lib.Seq.{getD-set-same, getD-set-other, set-out}
+use lib.Seq.{sets, getD-set-same, getD-set-other, set-out}
 
 -- two lists as long, changed at d, agree at i
 pub set-alike : (xs ys : List ℕ) (d v w i : ℕ) → length xs ≡ length ys → (i ≡ d → v ≡ w) → ((i ≡ d → ⊥) → getD xs i 0 ≡ getD ys i 0)
@@ -19,6 +19,11 @@ set-alike xs ys d v w i l f g = go (ℕ-discrete i d) (decLt d (length xs))
         let kx : length xs ≤ d = omega arith in
         let ky : length ys ≤ d = omega arith in
         rw (e, set-out xs d v kx, set-out ys d w ky) (List·getD-eq-default xs 0 kx ∙ sym (List·getD-eq-default ys 0 ky))
+
+-- one row of words after another
+pub sets-append : (vs ws l : List ℕ) (i : ℕ) → sets l i (vs ++ ws) ≡ sets (sets l i vs) (i + length vs) ws
+sets-append [] ws l i = let e : i + 0 ≡ i = omega arith in rw e
+sets-append (v ∷ vs) ws l i = let e : i + suc (length vs) ≡ suc i + length vs = omega arith in rw e (sets-append vs ws (set l i v) (suc i))
 
 -- where an array starts
 unfoldable pub offsetIn : List ℕ → ℕ → ℕ

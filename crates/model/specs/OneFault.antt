@@ -186,17 +186,6 @@ module _ (t : Table) (R : Rules) (D : Tests R) (g size : ℕ) (ok : Right R D g)
   function-named s h l n k (at-return F b j f e) =
       rw (walk-complete t R D g size ok (s .body) (rw (s .returns) tt) l 16 size (R .enter g) F h (omega arith) b, refuses (D .within F (R .leave g)) (ok .within F (R .leave g)) f, e) refl
 
--- the number and the place of a walk's fault
-abbrev numberIn : {X : Type 0} → Walked X → ℕ
-numberIn (Next p E) = 0
-numberIn (Shut p E) = 0
-numberIn (Fault n p) = n
-
-abbrev placeIn : {X : Type 0} → Walked X → ℕ
-placeIn (Next p E) = 0
-placeIn (Shut p E) = 0
-placeIn (Fault n p) = p
-
 module _ (t : Table) (size : ℕ) (read : (g : ℕ) → g < t .functions → Read t size g) where
   abbrev First : ℕ → ℕ → Type 0
   First n k = FirstFault t (typing t) numberOf n k
@@ -218,7 +207,7 @@ module _ (t : Table) (size : ℕ) (read : (g : ℕ) → g < t .functions → Rea
   one-fault n k m l a b = go (native.Mathlib.Decide.ℕ-discrete (b .function) (a .function))
     where
       same : functionAt t (typing t) (typingTests t) size (a .function) ≡ Fault m l → (n ≡ m) × (k ≡ l)
-      same e = let h = sym (names (a .function) n k (a .lies) (a .meets)) ∙ e in (ap numberIn h, ap placeIn h)
+      same e = let h = sym (names (a .function) n k (a .lies) (a .meets)) ∙ e in (cc, cc)
 
       apart : (b .function ≡ a .function → ⊥) → ⊥
       apart u = test (ltb (a .function) (b .function)) (λ _. ⊥)

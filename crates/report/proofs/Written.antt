@@ -6,6 +6,7 @@ use mathlib.Core.Path.{_≡_, refl, sym, _∙_}
 use mathlib.Core.List.{List, [], _∷_, _++_}
 use lib.ListN.{length, getD, take, set, length-append}
 use lib.Seq.{sets, take-suc, length-take-le}
+use Rattle.model.specs.Memory.{sets-append}
 use borrow.Author.Tests.{lt-ltb, le-ltb}
 use Rattle.report.specs.Text.{digitsIn}
 
@@ -33,10 +34,6 @@ digits-few (suc k) n = go (native.Mathlib.Decide.decLt n 10) (digits-few k (n / 
     go (no l) h = rw (dig-more (suc k) n (λ e. omega arith) (omega arith), sub-one, length-append) (omega (arith, h))
 
 -- one text after another
-pub sets-append : (vs ws l : List ℕ) (i : ℕ) → sets l i (vs ++ ws) ≡ sets (sets l i vs) (i + length vs) ws
-sets-append [] ws l i = let e : i + 0 ≡ i = omega arith in rw e
-sets-append (v ∷ vs) ws l i = let e : i + suc (length vs) ≡ suc i + length vs = omega arith in rw e (sets-append vs ws (set l i v) (suc i))
-
 pub sets-snoc : (l : List ℕ) (i : ℕ) (vs : List ℕ) (a : ℕ) → sets l i (vs ++ (a ∷ [])) ≡ set (sets l i vs) (i + length vs) a
 sets-snoc l i vs a = sets-append vs (a ∷ []) l i
 

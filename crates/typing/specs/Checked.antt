@@ -37,15 +37,6 @@ abbrev pub Means : List ℕ → Verdict → Type 0
 Means t (Accepted f b) = Readable t × Typed (tableOf t) × (f ≡ sizesOf t .functions) × (b ≡ length t)
 Means t (Refused n p) = Refusal t n p
 
--- the number and the place of a reading's fault
-abbrev numberIn : Answer → ℕ
-numberIn (Reads z) = 0
-numberIn (Unread n p) = n
-
-abbrev placeIn : Answer → ℕ
-placeIn (Reads z) = 0
-placeIn (Unread n p) = p
-
 module _ (t : List ℕ) where
   typed-means : Readable t → (w : Typing) → Says (tableOf t) (suc (length t)) w → Means t (typed (sizesOf t) t w)
   typed-means r Passes s = (r, s, refl, refl)
@@ -87,7 +78,7 @@ module _ (t : List ℕ) where
       IsRead (Unread m q) = ⊥
 
   refusal-one : (n p m q : ℕ) → Refusal t n p → Refusal t m q → (n ≡ m) × (p ≡ q)
-  refusal-one n p m q (unread e) (unread f) = let h = sym e ∙ f in (ap numberIn h, ap placeIn h)
+  refusal-one n p m q (unread e) (unread f) = let h = sym e ∙ f in (cc, cc)
   refusal-one n p m q (unread e) (untyped r f) = absurd (not-both n p r e)
   refusal-one n p m q (untyped r f) (unread e) = absurd (not-both m q r e)
   refusal-one n p m q (untyped r f) (untyped _ h) = one-fault (tableOf t) (suc (length t)) (all-read t (sizesOf t) r) n p m q f h

@@ -21,6 +21,9 @@ abbrev levels-in-below : ℕ → In 0 levels-in-kinds.ps
 levels-in-below t =
     and 0 levels-in-kinds.ps (falls 0 levels-in-kinds.ps _<_ μ-levels-in t) levels-in.Pre
 
+abbrev levels-in-claims : ℕ → levels-in-lts.Claims
+levels-in-claims t = (levels-in-below t, levels-in.Post)
+
 levels-in-returns :
     (t : ℕ) →
     levels-in-lts.Need-returns (levels-in-below t, levels-in.Post) (levels-in-at t) levels-in.Post
@@ -38,16 +41,10 @@ levels-in-returns-2 t c =
     let k = c .if2 .taken in
     simp (levels-is, eq-eqb)
 
-levels-in-sub-levels-in : (t : ℕ) → levels-in-lts.Need-sub-levels-in (
-  levels-in-below t,
-  levels-in.Post,
-) (levels-in-at t) levels-in.Post
+levels-in-sub-levels-in : (t : ℕ) → levels-in-lts.Need-sub-levels-in (levels-in-claims t) (levels-in-at t) levels-in.Post
 levels-in-sub-levels-in t c = search needs
 
-levels-in-levels-in-requires : (t : ℕ) → levels-in-lts.Need-levels-in-requires (
-  levels-in-below t,
-  levels-in.Post,
-) (levels-in-at t) levels-in.Post
+levels-in-levels-in-requires : (t : ℕ) → levels-in-lts.Need-levels-in-requires (levels-in-claims t) (levels-in-at t) levels-in.Post
 levels-in-levels-in-requires t c κs = search needs
 
 levels-in-returns-3 :

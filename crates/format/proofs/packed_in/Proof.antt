@@ -18,12 +18,6 @@ returns c =
     let h1 : 2 ≤ c .before .before .args .e .status = omega (arith, c .if1 .taken) in
     simp le-ltb
 
-levels-in-requires : tie.Need-levels-in-requires
-levels-in-requires c κs = search needs
-
-levels-in-requires-2 : tie.Need-levels-in-requires-2
-levels-in-requires-2 c κs = search needs
-
 returns-2 : tie.Need-returns-2
 unfolding packedIn
 returns-2 c =
@@ -39,4 +33,4 @@ returns-3 c =
 
 pub packed-in-spec : {M : Type 1} → statement M
 packed-in-spec =
-    tie.close (tie.spec returns levels-in-requires levels-in-requires-2 returns-2 returns-3)
+    tie.close (tie.spec returns (λ c κs. search needs) (λ c κs. search needs) returns-2 returns-3)

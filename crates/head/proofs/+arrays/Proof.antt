@@ -21,85 +21,43 @@ arrays-at t = and 1 arrays-kinds.ps (is 1 arrays-kinds.ps μ-arrays t) arrays.Pr
 abbrev arrays-below : ℕ → In 1 arrays-kinds.ps
 arrays-below t = and 1 arrays-kinds.ps (falls 1 arrays-kinds.ps _<_ μ-arrays t) arrays.Pre
 
-arrays-returns : (t : ℕ) → arrays-lts.Need-returns (
-  array-reads.Asked,
-  array-reads.Learnt,
-  arrays-below t,
-  arrays.Post,
-) (arrays-at t) arrays.Post
+abbrev arrays-claims : ℕ → arrays-lts.Claims
+arrays-claims t = (array-reads.Asked, array-reads.Learnt, arrays-below t, arrays.Post)
+
+arrays-returns : (t : ℕ) → arrays-lts.Need-returns (arrays-claims t) (arrays-at t) arrays.Post
 unfolding arraysAt
 arrays-returns t c =
     simp (c .if1 .taken)
 
-arrays-array-requires : (t : ℕ) → arrays-lts.Need-array-requires (
-  array-reads.Asked,
-  array-reads.Learnt,
-  arrays-below t,
-  arrays.Post,
-) (arrays-at t) arrays.Post
+arrays-array-requires : (t : ℕ) → arrays-lts.Need-array-requires (arrays-claims t) (arrays-at t) arrays.Post
 arrays-array-requires t c κs = search needs
 
-arrays-enum-known-one : (t : ℕ) → arrays-lts.Need-enum-known-one (
-  array-reads.Asked,
-  array-reads.Learnt,
-  arrays-below t,
-  arrays.Post,
-) (arrays-at t) arrays.Post
+arrays-enum-known-one : (t : ℕ) → arrays-lts.Need-enum-known-one (arrays-claims t) (arrays-at t) arrays.Post
 arrays-enum-known-one t c = search needs
 
-arrays-sub-arrays : (t : ℕ) → arrays-lts.Need-sub-arrays (
-  array-reads.Asked,
-  array-reads.Learnt,
-  arrays-below t,
-  arrays.Post,
-) (arrays-at t) arrays.Post
+arrays-sub-arrays : (t : ℕ) → arrays-lts.Need-sub-arrays (arrays-claims t) (arrays-at t) arrays.Post
 arrays-sub-arrays t c = search needs
 
-arrays-arrays-requires : (t : ℕ) → arrays-lts.Need-arrays-requires (
-  array-reads.Asked,
-  array-reads.Learnt,
-  arrays-below t,
-  arrays.Post,
-) (arrays-at t) arrays.Post
+arrays-arrays-requires : (t : ℕ) → arrays-lts.Need-arrays-requires (arrays-claims t) (arrays-at t) arrays.Post
 arrays-arrays-requires t c κs = search needs
 
-arrays-enum-known-one-2 : (t : ℕ) → arrays-lts.Need-enum-known-one-2 (
-  array-reads.Asked,
-  array-reads.Learnt,
-  arrays-below t,
-  arrays.Post,
-) (arrays-at t) arrays.Post
+arrays-enum-known-one-2 : (t : ℕ) → arrays-lts.Need-enum-known-one-2 (arrays-claims t) (arrays-at t) arrays.Post
 arrays-enum-known-one-2 t c = search needs
 
-arrays-returns-2 : (t : ℕ) → arrays-lts.Need-returns-2 (
-  array-reads.Asked,
-  array-reads.Learnt,
-  arrays-below t,
-  arrays.Post,
-) (arrays-at t) arrays.Post
+arrays-returns-2 : (t : ℕ) → arrays-lts.Need-returns-2 (arrays-claims t) (arrays-at t) arrays.Post
 arrays-returns-2 t c =
     let h = c .before .before .before .before .before .if1 .left in
     let e = sym (c .before .before .before .before .array .ensures) ∙ c .before .before .one .given .1 in
     simp (arrays-is, e) (c .arrays .ensures)
 
-arrays-returns-3 : (t : ℕ) → arrays-lts.Need-returns-3 (
-  array-reads.Asked,
-  array-reads.Learnt,
-  arrays-below t,
-  arrays.Post,
-) (arrays-at t) arrays.Post
+arrays-returns-3 : (t : ℕ) → arrays-lts.Need-returns-3 (arrays-claims t) (arrays-at t) arrays.Post
 arrays-returns-3 t c =
     let h = c .before .before .before .before .if1 .left in
     let e = sym (c .before .before .before .array .ensures) ∙ c .before .one2 .given .1 in
     simp (arrays-is, e)
 
 pub +arrays-spec : {M : Type 1} → statement M
-+arrays-spec = close μ-arrays λ t. arrays-lts.spec (
-  array-reads.Asked,
-  array-reads.Learnt,
-  arrays-below t,
-  arrays.Post,
-)
++arrays-spec = close μ-arrays λ t. arrays-lts.spec (arrays-claims t)
     (arrays-at t)
     arrays.Post
     (arrays-returns t)

@@ -23,93 +23,46 @@ abbrev signatures-below : ℕ → In 1 signatures-kinds.ps
 signatures-below t =
     and 1 signatures-kinds.ps (falls 1 signatures-kinds.ps _<_ μ-signatures t) signatures.Pre
 
-signatures-returns : (t : ℕ) → signatures-lts.Need-returns (
-  signature-reads.Asked,
-  signature-reads.Learnt,
-  signatures-below t,
-  signatures.Post,
-) (signatures-at t) signatures.Post
+abbrev signatures-claims : ℕ → signatures-lts.Claims
+signatures-claims t = (signature-reads.Asked, signature-reads.Learnt, signatures-below t, signatures.Post)
+
+signatures-returns : (t : ℕ) → signatures-lts.Need-returns (signatures-claims t) (signatures-at t) signatures.Post
 unfolding signaturesAt
 signatures-returns t c =
     simp (c .if1 .taken)
 
-signatures-sub-signature : (t : ℕ) → signatures-lts.Need-sub-signature (
-  signature-reads.Asked,
-  signature-reads.Learnt,
-  signatures-below t,
-  signatures.Post,
-) (signatures-at t) signatures.Post
+signatures-sub-signature : (t : ℕ) → signatures-lts.Need-sub-signature (signatures-claims t) (signatures-at t) signatures.Post
 signatures-sub-signature t c = search needs
 
-signatures-signature-requires : (t : ℕ) → signatures-lts.Need-signature-requires (
-  signature-reads.Asked,
-  signature-reads.Learnt,
-  signatures-below t,
-  signatures.Post,
-) (signatures-at t) signatures.Post
+signatures-signature-requires : (t : ℕ) → signatures-lts.Need-signature-requires (signatures-claims t) (signatures-at t) signatures.Post
 signatures-signature-requires t c κs = search needs
 
-signatures-enum-known-one : (t : ℕ) → signatures-lts.Need-enum-known-one (
-  signature-reads.Asked,
-  signature-reads.Learnt,
-  signatures-below t,
-  signatures.Post,
-) (signatures-at t) signatures.Post
+signatures-enum-known-one : (t : ℕ) → signatures-lts.Need-enum-known-one (signatures-claims t) (signatures-at t) signatures.Post
 signatures-enum-known-one t c = search needs
 
-signatures-sub-signatures : (t : ℕ) → signatures-lts.Need-sub-signatures (
-  signature-reads.Asked,
-  signature-reads.Learnt,
-  signatures-below t,
-  signatures.Post,
-) (signatures-at t) signatures.Post
+signatures-sub-signatures : (t : ℕ) → signatures-lts.Need-sub-signatures (signatures-claims t) (signatures-at t) signatures.Post
 signatures-sub-signatures t c = search needs
 
-signatures-signatures-requires : (t : ℕ) → signatures-lts.Need-signatures-requires (
-  signature-reads.Asked,
-  signature-reads.Learnt,
-  signatures-below t,
-  signatures.Post,
-) (signatures-at t) signatures.Post
+signatures-signatures-requires : (t : ℕ) → signatures-lts.Need-signatures-requires (signatures-claims t) (signatures-at t) signatures.Post
 signatures-signatures-requires t c κs = search needs
 
-signatures-enum-known-one-2 : (t : ℕ) → signatures-lts.Need-enum-known-one-2 (
-  signature-reads.Asked,
-  signature-reads.Learnt,
-  signatures-below t,
-  signatures.Post,
-) (signatures-at t) signatures.Post
+signatures-enum-known-one-2 : (t : ℕ) → signatures-lts.Need-enum-known-one-2 (signatures-claims t) (signatures-at t) signatures.Post
 signatures-enum-known-one-2 t c = search needs
 
-signatures-returns-2 : (t : ℕ) → signatures-lts.Need-returns-2 (
-  signature-reads.Asked,
-  signature-reads.Learnt,
-  signatures-below t,
-  signatures.Post,
-) (signatures-at t) signatures.Post
+signatures-returns-2 : (t : ℕ) → signatures-lts.Need-returns-2 (signatures-claims t) (signatures-at t) signatures.Post
 signatures-returns-2 t c =
     let h = c .before .before .before .before .before .if1 .left in
     let e = sym (c .before .before .before .before .signature .ensures) ∙ c .before .before .one .given .1 in
     simp (signatures-is, e) (c .signatures .ensures)
 
-signatures-returns-3 : (t : ℕ) → signatures-lts.Need-returns-3 (
-  signature-reads.Asked,
-  signature-reads.Learnt,
-  signatures-below t,
-  signatures.Post,
-) (signatures-at t) signatures.Post
+signatures-returns-3 : (t : ℕ) → signatures-lts.Need-returns-3 (signatures-claims t) (signatures-at t) signatures.Post
 signatures-returns-3 t c =
     let h = c .before .before .before .before .if1 .left in
     let e = sym (c .before .before .before .signature .ensures) ∙ c .before .one2 .given .1 in
     simp (signatures-is, e)
 
 pub +signatures-spec : {M : Type 1} → statement M
-+signatures-spec = close μ-signatures λ t. signatures-lts.spec (
-  signature-reads.Asked,
-  signature-reads.Learnt,
-  signatures-below t,
-  signatures.Post,
-)
++signatures-spec = close μ-signatures λ t. signatures-lts.spec (signatures-claims t)
     (signatures-at t)
     signatures.Post
     (signatures-returns t)

@@ -17,18 +17,12 @@ returns c =
     let h1 = c .if1 .taken in
     simp (lt-ltb, le-ltb, le-leb, lt-leb, eq-eqb, ne-eqb)
 
-shared-slice-read-if2 : tie.Need-shared-slice-read-if2
-shared-slice-read-if2 c = search needs
-
 returns-2 : tie.Need-returns-2
 unfolding arrayAt
 returns-2 c =
     let h1 = c .if2 .taken in
     let h2 = c .before .before .if1 .left in
     simp (lt-ltb, le-ltb, le-leb, lt-leb, eq-eqb, ne-eqb)
-
-sub-if3 : tie.Need-sub-if3
-sub-if3 c = search needs
 
 returns-3 : tie.Need-returns-3
 unfolding arrayAt
@@ -37,12 +31,6 @@ returns-3 c =
     let h2 = c .before .if2 .left in
     let h3 = c .before .before .before .if1 .left in
     simp (lt-ltb, le-ltb, le-leb, lt-leb, eq-eqb, ne-eqb)
-
-add-place-at : tie.Need-add-place-at
-add-place-at c = search needs
-
-place-at-requires : tie.Need-place-at-requires
-place-at-requires c κs = search needs
 
 returns-4 : tie.Need-returns-4
 unfolding arrayAt
@@ -63,9 +51,6 @@ returns-5 c =
     let h5 = c .before .before .before .before .before .before .if1 .left in
     simp (lt-ltb, le-ltb, le-leb, lt-leb, eq-eqb, ne-eqb, pick-same)
 
-add-t4 : tie.Need-add-t4
-add-t4 c = search needs
-
 returns-6 : tie.Need-returns-6
 unfolding arrayAt
 returns-6 c =
@@ -81,13 +66,13 @@ array-spec =
     tie.close
     (tie.spec
     returns
-    shared-slice-read-if2
+    (λ c. search needs)
     returns-2
-    sub-if3
+    (λ c. search needs)
     returns-3
-    add-place-at
-    place-at-requires
+    (λ c. search needs)
+    (λ c κs. search needs)
     returns-4
     returns-5
-    add-t4
+    (λ c. search needs)
     returns-6)

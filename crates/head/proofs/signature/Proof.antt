@@ -15,18 +15,12 @@ returns c =
     let h = c .if1 .taken in
     simp (lt-ltb, le-ltb, le-leb, lt-leb, eq-eqb, ne-eqb)
 
-shared-slice-read-if2 : tie.Need-shared-slice-read-if2
-shared-slice-read-if2 c = search needs
-
 returns-2 : tie.Need-returns-2
 unfolding signatureAt
 returns-2 c =
     let h = c .if2 .taken in
     let h1 = c .before .before .if1 .left in
     simp (lt-ltb, le-ltb, le-leb, lt-leb, eq-eqb, ne-eqb)
-
-sub-if3 : tie.Need-sub-if3
-sub-if3 c = search needs
 
 returns-3 : tie.Need-returns-3
 unfolding signatureAt
@@ -35,21 +29,6 @@ returns-3 c =
     let h2 = c .before .if2 .left in
     let h1 = c .before .before .before .if1 .left in
     simp (lt-ltb, le-ltb, le-leb, lt-leb, eq-eqb, ne-eqb)
-
-add-packed-at : tie.Need-add-packed-at
-add-packed-at c = search needs
-
-packed-at-requires : tie.Need-packed-at-requires
-packed-at-requires c κs = search needs
-
-add-packed-at-2 : tie.Need-add-packed-at-2
-add-packed-at-2 c = search needs
-
-packed-at-requires-2 : tie.Need-packed-at-requires-2
-packed-at-requires-2 c κs = search needs
-
-packed-in-requires : tie.Need-packed-in-requires
-packed-in-requires c κs = search needs
 
 returns-4 : tie.Need-returns-4
 unfolding signatureAt
@@ -61,9 +40,6 @@ returns-4 c =
     let w = c .before .before .packed-at2 .ensures in
     let e = simp v at (sym (c .before .packed-in .ensures) ∙ not-true _ (c .if4 .taken)) in
     simp (e, lt-ltb, le-ltb, le-leb, lt-leb, eq-eqb, ne-eqb)
-
-packed-in-requires-2 : tie.Need-packed-in-requires-2
-packed-in-requires-2 c κs = search needs
 
 returns-5 : tie.Need-returns-5
 unfolding signatureAt
@@ -77,9 +53,6 @@ returns-5 c =
     let f = simp w at (sym (c .before .packed-in2 .ensures) ∙ not-true _ (c .if5 .taken)) in
     simp (e, f, lt-ltb, le-ltb, le-leb, lt-leb, eq-eqb, ne-eqb)
 
-add-t13 : tie.Need-add-t13
-add-t13 c = search needs
-
 returns-6 : tie.Need-returns-6
 unfolding signatureAt
 returns-6 c =
@@ -92,9 +65,6 @@ returns-6 c =
     let f = simp w at (sym (c .before .before .packed-in2 .ensures) ∙ not-false _ (c .before .if5 .left)) in
     let n = c .if6 .taken in
     simp (e, f, lt-ltb, le-ltb, le-leb, lt-leb, eq-eqb, ne-eqb)
-
-add-t14 : tie.Need-add-t14
-add-t14 c = search needs
 
 returns-7 : tie.Need-returns-7
 unfolding signatureAt
@@ -129,20 +99,20 @@ signature-spec =
     tie.close
     (tie.spec
     returns
-    shared-slice-read-if2
+    (λ c. search needs)
     returns-2
-    sub-if3
+    (λ c. search needs)
     returns-3
-    add-packed-at
-    packed-at-requires
-    add-packed-at-2
-    packed-at-requires-2
-    packed-in-requires
+    (λ c. search needs)
+    (λ c κs. search needs)
+    (λ c. search needs)
+    (λ c κs. search needs)
+    (λ c κs. search needs)
     returns-4
-    packed-in-requires-2
+    (λ c κs. search needs)
     returns-5
-    add-t13
+    (λ c. search needs)
     returns-6
-    add-t14
+    (λ c. search needs)
     returns-7
     returns-8)

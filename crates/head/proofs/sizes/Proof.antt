@@ -16,18 +16,12 @@ returns c =
     let h1 = c .if1 .taken in
     simp (lt-ltb, le-ltb, le-leb, lt-leb, eq-eqb, ne-eqb)
 
-shared-slice-read-if2 : tie.Need-shared-slice-read-if2
-shared-slice-read-if2 c = search needs
-
 returns-2 : tie.Need-returns-2
 unfolding sizesAt
 returns-2 c =
     let h1 = c .if2 .taken in
     let h2 = c .before .before .if1 .left in
     simp (lt-ltb, le-ltb, le-leb, lt-leb, eq-eqb, ne-eqb)
-
-sub-if3 : tie.Need-sub-if3
-sub-if3 c = search needs
 
 returns-3 : tie.Need-returns-3
 unfolding sizesAt
@@ -36,24 +30,6 @@ returns-3 c =
     let h2 = c .before .if2 .left in
     let h3 = c .before .before .before .if1 .left in
     simp (lt-ltb, le-ltb, le-leb, lt-leb, eq-eqb, ne-eqb)
-
-add-registers : tie.Need-add-registers
-add-registers c = search needs
-
-shared-slice-read-registers : tie.Need-shared-slice-read-registers
-shared-slice-read-registers c = search needs
-
-add-arrays : tie.Need-add-arrays
-add-arrays c = search needs
-
-shared-slice-read-arrays : tie.Need-shared-slice-read-arrays
-shared-slice-read-arrays c = search needs
-
-add-functions : tie.Need-add-functions
-add-functions c = search needs
-
-shared-slice-read-functions : tie.Need-shared-slice-read-functions
-shared-slice-read-functions c = search needs
 
 returns-4 : tie.Need-returns-4
 unfolding sizesAt
@@ -102,9 +78,6 @@ returns-8 c =
     let h8 = c .before .before .before .before .before .before .before .before .before .before .before .if1 .left in
     simp (lt-ltb, le-ltb, le-leb, lt-leb, eq-eqb, ne-eqb, pick-same)
 
-add-t10 : tie.Need-add-t10
-add-t10 c = search needs
-
 returns-9 : tie.Need-returns-9
 unfolding sizesAt
 returns-9 c =
@@ -123,20 +96,20 @@ sizes-spec =
     tie.close
     (tie.spec
     returns
-    shared-slice-read-if2
+    (λ c. search needs)
     returns-2
-    sub-if3
+    (λ c. search needs)
     returns-3
-    add-registers
-    shared-slice-read-registers
-    add-arrays
-    shared-slice-read-arrays
-    add-functions
-    shared-slice-read-functions
+    (λ c. search needs)
+    (λ c. search needs)
+    (λ c. search needs)
+    (λ c. search needs)
+    (λ c. search needs)
+    (λ c. search needs)
     returns-4
     returns-5
     returns-6
     returns-7
     returns-8
-    add-t10
+    (λ c. search needs)
     returns-9)

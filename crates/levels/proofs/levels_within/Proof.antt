@@ -9,12 +9,9 @@ use Rattle.levels.proofs.levels_within.Reads as reads
 use Rattle.levels.proofs.levels_within.Lts as lts
 use Rattle.levels.proofs.join_levels.Reads as join-levels-reads
 
-join-levels-requires : tie.Need-join-levels-requires
-join-levels-requires c κs = search needs
-
 returns : tie.Need-returns
 unfolding withinWords
 returns c = ap (λ (x : ℕ). eqb x (c .before .args .b)) (c .join-levels .ensures)
 
 pub levels-within-spec : {M : Type 1} → statement M
-levels-within-spec = tie.close (tie.spec join-levels-requires returns)
+levels-within-spec = tie.close (tie.spec (λ c κs. search needs) returns)

@@ -14,12 +14,6 @@ returns : tie.Need-returns
 unfolding lows
 returns c = let e : min (c .before .args .n) 16 ≡ 16 = omega (arith, c .if1 .taken) in sym (ap lows e)
 
-mul-k : tie.Need-mul-k
-mul-k c = search needs
-
-shl-result : tie.Need-shl-result
-shl-result c = search needs
-
 sub-result : tie.Need-sub-result
 sub-result c = mask-pos (c .before .args .n) (omega (arith, c .if1 .left))
 
@@ -28,4 +22,4 @@ unfolding lows
 returns-2 c = let e : min (c .before .args .n) 16 ≡ c .before .args .n = omega (arith, c .if1 .left) in lows-shifted (c .before .args .n) (omega (arith, c .if1 .left)) ∙ sym (ap lows e)
 
 pub transients-spec : {M : Type 1} → statement M
-transients-spec = tie.close (tie.spec returns mul-k shl-result sub-result returns-2)
+transients-spec = tie.close (tie.spec returns (λ c. search needs) (λ c. search needs) sub-result returns-2)

@@ -14,21 +14,6 @@ use Rattle.levels.proofs.level.Reads as level-reads
 returns : tie.Need-returns
 returns c = rw (le-ltb (c .before .args .i) 16 (c .if1 .taken)) refl
 
-mul-k : tie.Need-mul-k
-mul-k c = search needs
-
-level-requires : tie.Need-level-requires
-level-requires c κs = search needs
-
-cast-old : tie.Need-cast-old
-cast-old c = search needs
-
-cast-new : tie.Need-cast-new
-cast-new c = search needs
-
-shl-result : tie.Need-shl-result
-shl-result c = search needs
-
 returns-2 : tie.Need-returns-2
 returns-2 c =
     let a = c .before .before .args in
@@ -37,4 +22,4 @@ returns-2 c =
 
 pub with-level-spec : {M : Type 1} → statement M
 with-level-spec =
-    tie.close (tie.spec returns mul-k level-requires cast-old cast-new shl-result returns-2)
+    tie.close (tie.spec returns (λ c. search needs) (λ c κs. search needs) (λ c. search needs) (λ c. search needs) (λ c. search needs) returns-2)

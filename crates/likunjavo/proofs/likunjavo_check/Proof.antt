@@ -8,27 +8,6 @@ use Rattle.likunjavo.proofs.likunjavo_check.Lts as lts
 use Rattle.likunjavo.proofs.put_three.Reads as put-three-reads
 use Rattle.typing.proofs.check.Reads as check-reads
 
-check-requires : tie.Need-check-requires
-check-requires c κs = search needs
-
-enum-known-v : tie.Need-enum-known-v
-enum-known-v c = search needs
-
-cast-put-three : tie.Need-cast-put-three
-cast-put-three c = search needs
-
-put-three-requires : tie.Need-put-three-requires
-put-three-requires c κs = search needs
-
-enum-known-v-2 : tie.Need-enum-known-v-2
-enum-known-v-2 c = search needs
-
-cast-put-three-2 : tie.Need-cast-put-three-2
-cast-put-three-2 c = search needs
-
-put-three-requires-2 : tie.Need-put-three-requires-2
-put-three-requires-2 c κs = search needs
-
 returns : tie.Need-returns
 returns c = c .put-three .ensures ∙ sym (ap verdictNumbers (sym (c .before .before .before .before .before .check .ensures) ∙ c .before .before .before .v .given .1))
 
@@ -39,12 +18,12 @@ pub likunjavo-check-spec : {M : Type 1} → statement M
 likunjavo-check-spec =
     tie.close
     (tie.spec
-    check-requires
-    enum-known-v
-    cast-put-three
-    put-three-requires
-    enum-known-v-2
-    cast-put-three-2
-    put-three-requires-2
+    (λ c κs. search needs)
+    (λ c. search needs)
+    (λ c. search needs)
+    (λ c κs. search needs)
+    (λ c. search needs)
+    (λ c. search needs)
+    (λ c κs. search needs)
     returns
     returns-2)

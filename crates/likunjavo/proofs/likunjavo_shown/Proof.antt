@@ -8,21 +8,6 @@ use Rattle.likunjavo.proofs.likunjavo_shown.Lts as lts
 use Rattle.likunjavo.proofs.put_three.Reads as put-three-reads
 use Rattle.message.proofs.part_of.Reads as part-of-reads
 
-part-of-requires : tie.Need-part-of-requires
-part-of-requires c κs = search needs
-
-enum-known-p : tie.Need-enum-known-p
-enum-known-p c = search needs
-
-put-three-requires : tie.Need-put-three-requires
-put-three-requires c κs = search needs
-
-enum-known-p-2 : tie.Need-enum-known-p-2
-enum-known-p-2 c = search needs
-
-put-three-requires-2 : tie.Need-put-three-requires-2
-put-three-requires-2 c κs = search needs
-
 returns : tie.Need-returns
 returns c = c .put-three .ensures ∙ sym (ap partNumbers (sym (c .before .before .before .before .before .part-of .ensures) ∙ c .before .before .before .p .given .1))
 
@@ -33,10 +18,10 @@ pub likunjavo-shown-spec : {M : Type 1} → statement M
 likunjavo-shown-spec =
     tie.close
     (tie.spec
-    part-of-requires
-    enum-known-p
-    put-three-requires
-    enum-known-p-2
-    put-three-requires-2
+    (λ c κs. search needs)
+    (λ c. search needs)
+    (λ c κs. search needs)
+    (λ c. search needs)
+    (λ c κs. search needs)
     returns
     returns-2)

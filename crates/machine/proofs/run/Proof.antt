@@ -11,33 +11,12 @@ use Rattle.machine.proofs.memory.fits.Reads as fits-reads
 use Rattle.machine.proofs.steps.all_steps.Reads as all-steps-reads
 use Rattle.reading.proofs.read.Reads as read-reads
 
-read-requires : tie.Need-read-requires
-read-requires c κs = search needs
-
-enum-known-a : tie.Need-enum-known-a
-enum-known-a c = search needs
-
-enum-known-a-2 : tie.Need-enum-known-a-2
-enum-known-a-2 c = search needs
-
-fits-requires : tie.Need-fits-requires
-fits-requires c κs = search needs
-
 returns : tie.Need-returns
 returns c =
     let a = c .before .before .before .before .before .before .before .before .before .before .before .args in
     let e = sym (c .before .before .before .before .before .read .ensures) ∙ c .before .before .before .a2 .given .1 in
     let f = sym (c .before .fits2 .ensures) ∙ not-true (c .before .fits2 .result) (c .if1 .taken) in
     ran-misfit (a .t .now) (a .regs .now) (a .mem .now) (a .dirs .now) (a .obs .now) _ e f
-
-list-fault-requires : tie.Need-list-fault-requires
-list-fault-requires c κs = search needs
-
-enum-known-l : tie.Need-enum-known-l
-enum-known-l c = search needs
-
-enum-told : tie.Need-enum-told
-enum-told c = search needs
 
 all-steps-requires : tie.Need-all-steps-requires
 all-steps-requires c κs =
@@ -59,15 +38,6 @@ returns-3 c =
     let l = sym (c .before .before .before .list-fault .ensures) ∙ c .before .l .given .1 in
     ran-wrong (a .t .now) (a .regs .now) (a .mem .now) (a .dirs .now) (a .obs .now) _ e f l
 
-same-length : tie.Need-same-length
-same-length c = search needs
-
-same-length-2 : tie.Need-same-length-2
-same-length-2 c = search needs
-
-same-length-3 : tie.Need-same-length-3
-same-length-3 c = search needs
-
 returns-4 : tie.Need-returns-4
 returns-4 c =
     let a = c .before .before .before .before .before .before .before .before .before .before .before .before .before .before .before .before .before .before .before .before .before .before .before .before .args in
@@ -80,18 +50,18 @@ pub run-spec : {M : Type 1} → statement M
 run-spec =
     tie.close
     (tie.spec
-    read-requires
-    enum-known-a
-    enum-known-a-2
-    fits-requires
+    (λ c κs. search needs)
+    (λ c. search needs)
+    (λ c. search needs)
+    (λ c κs. search needs)
     returns
-    list-fault-requires
-    enum-known-l
-    enum-told
+    (λ c κs. search needs)
+    (λ c. search needs)
+    (λ c. search needs)
     all-steps-requires
     returns-2
     returns-3
-    same-length
-    same-length-2
-    same-length-3
+    (λ c. search needs)
+    (λ c. search needs)
+    (λ c. search needs)
     returns-4)

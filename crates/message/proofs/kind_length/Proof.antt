@@ -6,9 +6,6 @@ use Rattle.message.proofs.kind_length.Reads as reads
 use Rattle.message.proofs.kind_length.Lts as lts
 use Rattle.records.proofs.code_length.Reads as code-length-reads
 
-code-length-requires : tie.Need-code-length-requires
-code-length-requires c κs = search needs
-
 returns : tie.Need-returns
 returns c =
     simp (c .match .keys1, lt-ltb, le-ltb, le-leb, lt-leb, eq-eqb, ne-eqb)
@@ -29,4 +26,4 @@ returns-4 c =
     simp (lt-ltb, le-ltb, le-leb, lt-leb, eq-eqb, ne-eqb) (c .code-length .ensures .0)
 
 pub kind-length-spec : {M : Type 1} → statement M
-kind-length-spec = tie.close (tie.spec code-length-requires returns returns-2 returns-3 returns-4)
+kind-length-spec = tie.close (tie.spec (λ c κs. search needs) returns returns-2 returns-3 returns-4)

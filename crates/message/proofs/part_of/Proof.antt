@@ -20,18 +20,6 @@ returns c =
     let n : c .before .before .before .args .number ≡ 16 → ⊥ = λ e. omega arith in
     simp (lt-leb, ne-eqb)
 
-table-count-requires : tie.Need-table-count-requires
-table-count-requires c κs = search needs
-
-smaller-requires : tie.Need-smaller-requires
-smaller-requires c κs = search needs
-
-rest-requires : tie.Need-rest-requires
-rest-requires c κs = search needs
-
-smaller-requires-2 : tie.Need-smaller-requires-2
-smaller-requires-2 c κs = search needs
-
 returns-2 : tie.Need-returns-2
 unfolding partOf
 returns-2 c =
@@ -56,21 +44,6 @@ returns-4 c =
     let h4 = c .before .before .before .if1 .left in
     simp (lt-ltb, le-ltb, le-leb, lt-leb, eq-eqb, ne-eqb)
 
-byte-at-requires : tie.Need-byte-at-requires
-byte-at-requires c κs = search needs
-
-directive-length-requires : tie.Need-directive-length-requires
-directive-length-requires c κs = search needs
-
-smaller-requires-3 : tie.Need-smaller-requires-3
-smaller-requires-3 c κs = search needs
-
-rest-requires-2 : tie.Need-rest-requires-2
-rest-requires-2 c κs = search needs
-
-smaller-requires-4 : tie.Need-smaller-requires-4
-smaller-requires-4 c κs = search needs
-
 returns-5 : tie.Need-returns-5
 unfolding partOf
 returns-5 c =
@@ -85,16 +58,16 @@ part-of-spec =
     tie.close
     (tie.spec
     returns
-    table-count-requires
-    smaller-requires
-    rest-requires
-    smaller-requires-2
+    (λ c κs. search needs)
+    (λ c κs. search needs)
+    (λ c κs. search needs)
+    (λ c κs. search needs)
     returns-2
     returns-3
     returns-4
-    byte-at-requires
-    directive-length-requires
-    smaller-requires-3
-    rest-requires-2
-    smaller-requires-4
+    (λ c κs. search needs)
+    (λ c κs. search needs)
+    (λ c κs. search needs)
+    (λ c κs. search needs)
+    (λ c κs. search needs)
     returns-5)

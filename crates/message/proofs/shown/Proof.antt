@@ -9,19 +9,10 @@ use Rattle.message.proofs.shown.Lts as lts
 use Rattle.message.proofs.part_of.Reads as part-of-reads
 use Rattle.message.proofs.slice_of.Reads as slice-of-reads
 
-part-of-requires : tie.Need-part-of-requires
-part-of-requires c κs = search needs
-
-enum-known-w : tie.Need-enum-known-w
-enum-known-w c = search needs
-
 slice-of-requires : tie.Need-slice-of-requires
 slice-of-requires c κs =
     let a = c .before .before .before .before .before .before .args in
     subst (Lies (a .table .now) (a .list .now)) (sym (c .before .before .before .part-of .ensures) ∙ c .before .w .given .1) (part-lies (a .table .now) (a .list .now) (a .number) (a .place))
-
-enum-known-w-2 : tie.Need-enum-known-w-2
-enum-known-w-2 c = search needs
 
 slice-of-requires-2 : tie.Need-slice-of-requires-2
 slice-of-requires-2 c κs =
@@ -42,10 +33,10 @@ pub shown-spec : {M : Type 1} → statement M
 shown-spec =
     tie.close
     (tie.spec
-    part-of-requires
-    enum-known-w
+    (λ c κs. search needs)
+    (λ c. search needs)
     slice-of-requires
-    enum-known-w-2
+    (λ c. search needs)
     slice-of-requires-2
     returns
     returns-2)

@@ -8,18 +8,6 @@ use Rattle.format.proofs.byte_at.Reads as byte-at-reads
 use Rattle.message.proofs.kind_length.Reads as kind-length-reads
 use Rattle.message.proofs.rest.Reads as rest-reads
 
-rest-requires : tie.Need-rest-requires
-rest-requires c κs = search needs
-
-rest-requires-2 : tie.Need-rest-requires-2
-rest-requires-2 c κs = search needs
-
-byte-at-requires : tie.Need-byte-at-requires
-byte-at-requires c κs = search needs
-
-kind-length-requires : tie.Need-kind-length-requires
-kind-length-requires c κs = search needs
-
 returns : tie.Need-returns
 returns c =
     simp (c .rest .ensures, c .before .match .keys1, lt-ltb, le-ltb, le-leb, lt-leb, eq-eqb, ne-eqb)
@@ -43,10 +31,10 @@ pub table-count-spec : {M : Type 1} → statement M
 table-count-spec =
     tie.close
     (tie.spec
-    rest-requires
-    rest-requires-2
-    byte-at-requires
-    kind-length-requires
+    (λ c κs. search needs)
+    (λ c κs. search needs)
+    (λ c κs. search needs)
+    (λ c κs. search needs)
     returns
     returns-2
     returns-3

@@ -18,23 +18,11 @@ returns c =
     let h1 = c .if1 .taken in
     simp le-leb
 
-shared-slice-read-kind : tie.Need-shared-slice-read-kind
-shared-slice-read-kind c = search needs
-
-code-length-requires : tie.Need-code-length-requires
-code-length-requires c κs = search needs
-
 returns-2 : tie.Need-returns-2
 returns-2 c = sym (decode-none (c .before .before .before .before .before .args .z) (c .before .before .before .before .before .args .t .now) (c .before .before .before .before .before .args .at) (c .before .before .before .if1 .left) (sym (c .before .code-length .ensures .0) ∙ c .if2 .taken))
 
-sub-if3 : tie.Need-sub-if3
-sub-if3 c = search needs
-
 returns-3 : tie.Need-returns-3
 returns-3 c = sym (decode-short (c .before .before .before .before .before .before .args .z) (c .before .before .before .before .before .before .args .t .now) (c .before .before .before .before .before .before .args .at) (c .before .before .before .before .if1 .left) (subst (λ (n : ℕ). length (c .before .before .before .before .before .before .args .t .now) - c .before .before .before .before .before .before .args .at < n) (c .before .before .code-length .ensures .0) (c .if3 .taken)))
-
-fields-requires : tie.Need-fields-requires
-fields-requires c κs = search needs
 
 returns-4 : tie.Need-returns-4
 unfolding decodeAt
@@ -47,10 +35,10 @@ decode-spec =
     tie.close
     (tie.spec
     returns
-    shared-slice-read-kind
-    code-length-requires
+    (λ c. search needs)
+    (λ c κs. search needs)
     returns-2
-    sub-if3
+    (λ c. search needs)
     returns-3
-    fields-requires
+    (λ c κs. search needs)
     returns-4)

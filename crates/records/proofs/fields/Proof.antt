@@ -49,9 +49,6 @@ unfolding codeLength
 read-store-requires c κs =
     subst (λ (k : ℕ). c .before .before .args .at + codeLength k ≤ length (c .before .before .args .t .now)) (c .match .keys5) (c .before .before .pre .1)
 
-add-t8 : tie.Need-add-t8
-add-t8 c = search needs
-
 read-update-requires : tie.Need-read-update-requires
 unfolding codeLength
 read-update-requires c κs =
@@ -87,9 +84,6 @@ unfolding codeLength
 read-else-requires c κs =
     subst (λ (k : ℕ). c .before .before .args .at + codeLength k ≤ length (c .before .before .args .t .now)) (c .match .keys13) (c .before .before .pre .1)
 
-add-t10 : tie.Need-add-t10
-add-t10 c = search needs
-
 read-while-requires : tie.Need-read-while-requires
 unfolding codeLength
 read-while-requires c κs =
@@ -99,9 +93,6 @@ read-endwhile-requires : tie.Need-read-endwhile-requires
 unfolding codeLength
 read-endwhile-requires c κs =
     subst (λ (k : ℕ). c .before .before .args .at + codeLength k ≤ length (c .before .before .args .t .now)) (c .match .keys16) (c .before .before .pre .1)
-
-add-t12 : tie.Need-add-t12
-add-t12 c = search needs
 
 returns : tie.Need-returns
 returns c = rw (c .before .match .keys1) (c .read-const .ensures)
@@ -185,7 +176,7 @@ fields-spec =
     read-select-requires
     read-load-requires
     read-store-requires
-    add-t8
+    (λ c. search needs)
     read-update-requires
     read-protect-requires
     read-call-requires
@@ -193,10 +184,10 @@ fields-spec =
     read-store-fixed-requires
     read-if-requires
     read-else-requires
-    add-t10
+    (λ c. search needs)
     read-while-requires
     read-endwhile-requires
-    add-t12
+    (λ c. search needs)
     returns
     returns-2
     returns-3

@@ -5,11 +5,8 @@ use Rattle.records.proofs.has_word.Reads as reads
 use Rattle.records.proofs.has_word.Lts as lts
 use Rattle.layout.proofs.words_at.Reads as words-at-reads
 
-words-at-requires : tie.Need-words-at-requires
-words-at-requires c κs = search needs
-
 returns : tie.Need-returns
 returns c = simp (c .words-at .ensures .0)
 
 pub has-word-spec : {M : Type 1} → statement M
-has-word-spec = tie.close (tie.spec words-at-requires returns)
+has-word-spec = tie.close (tie.spec (λ c κs. search needs) returns)

@@ -7,18 +7,6 @@ use Rattle.records.proofs.read_call.Tie as tie
 use Rattle.records.proofs.read_call.Reads as reads
 use Rattle.records.proofs.read_call.Lts as lts
 
-add-function : tie.Need-add-function
-add-function c = search needs
-
-shared-slice-read-function : tie.Need-shared-slice-read-function
-shared-slice-read-function c = search needs
-
-add-mark : tie.Need-add-mark
-add-mark c = search needs
-
-shared-slice-read-mark : tie.Need-shared-slice-read-mark
-shared-slice-read-mark c = search needs
-
 returns : tie.Need-returns
 unfolding rowAt
 returns c =
@@ -32,9 +20,6 @@ returns-2 c =
     let h2 = c .before .if1 .left in
     simp (whole (c .before .before .before .before .before .args .t .now) (c .before .before .before .before .before .args .at) 3 (c .before .before .before .before .before .pre), lt-ltb, le-ltb)
 
-add-t6 : tie.Need-add-t6
-add-t6 c = search needs
-
 returns-3 : tie.Need-returns-3
 unfolding rowAt
 returns-3 c =
@@ -46,11 +31,11 @@ pub read-call-spec : {M : Type 1} → statement M
 read-call-spec =
     tie.close
     (tie.spec
-    add-function
-    shared-slice-read-function
-    add-mark
-    shared-slice-read-mark
+    (λ c. search needs)
+    (λ c. search needs)
+    (λ c. search needs)
+    (λ c. search needs)
     returns
     returns-2
-    add-t6
+    (λ c. search needs)
     returns-3)

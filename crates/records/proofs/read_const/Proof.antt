@@ -8,26 +8,11 @@ use Rattle.records.proofs.read_const.Reads as reads
 use Rattle.records.proofs.read_const.Lts as lts
 use Rattle.format.proofs.word_at.Reads as word-at-reads
 
-add-dest : tie.Need-add-dest
-add-dest c = search needs
-
-shared-slice-read-dest : tie.Need-shared-slice-read-dest
-shared-slice-read-dest c = search needs
-
-add-word-at : tie.Need-add-word-at
-add-word-at c = search needs
-
-word-at-requires : tie.Need-word-at-requires
-word-at-requires c κs = search needs
-
 returns : tie.Need-returns
 unfolding rowAt
 returns c =
     let h1 = c .if1 .taken in
     simp (whole (c .before .before .before .before .before .args .t .now) (c .before .before .before .before .before .args .at) 6 (c .before .before .before .before .before .pre), c .before .before .word-at .ensures, lt-ltb, le-ltb)
-
-add-t6 : tie.Need-add-t6
-add-t6 c = search needs
 
 returns-2 : tie.Need-returns-2
 unfolding rowAt
@@ -38,4 +23,4 @@ returns-2 c =
 pub read-const-spec : {M : Type 1} → statement M
 read-const-spec =
     tie.close
-    (tie.spec add-dest shared-slice-read-dest add-word-at word-at-requires returns add-t6 returns-2)
+    (tie.spec (λ c. search needs) (λ c. search needs) (λ c. search needs) (λ c κs. search needs) returns (λ c. search needs) returns-2)

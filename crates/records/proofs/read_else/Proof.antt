@@ -7,19 +7,10 @@ use Rattle.records.proofs.read_else.Reads as reads
 use Rattle.records.proofs.read_else.Lts as lts
 use Rattle.format.proofs.place_at.Reads as place-at-reads
 
-add-place-at : tie.Need-add-place-at
-add-place-at c = search needs
-
-place-at-requires : tie.Need-place-at-requires
-place-at-requires c κs = search needs
-
-add-t5 : tie.Need-add-t5
-add-t5 c = search needs
-
 returns : tie.Need-returns
 unfolding rowAt
 returns c =
     simp (whole (c .before .before .args .t .now) (c .before .before .args .at) 3 (c .before .before .pre), c .place-at .ensures .0)
 
 pub read-else-spec : {M : Type 1} → statement M
-read-else-spec = tie.close (tie.spec add-place-at place-at-requires add-t5 returns)
+read-else-spec = tie.close (tie.spec (λ c. search needs) (λ c κs. search needs) (λ c. search needs) returns)

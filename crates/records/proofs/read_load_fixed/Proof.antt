@@ -10,24 +10,6 @@ use Rattle.records.proofs.read_load_fixed.Lts as lts
 use Rattle.format.proofs.place_at.Reads as place-at-reads
 use Rattle.records.proofs.has_word.Reads as has-word-reads
 
-add-dest : tie.Need-add-dest
-add-dest c = search needs
-
-shared-slice-read-dest : tie.Need-shared-slice-read-dest
-shared-slice-read-dest c = search needs
-
-add-array : tie.Need-add-array
-add-array c = search needs
-
-shared-slice-read-array : tie.Need-shared-slice-read-array
-shared-slice-read-array c = search needs
-
-add-place-at : tie.Need-add-place-at
-add-place-at c = search needs
-
-place-at-requires : tie.Need-place-at-requires
-place-at-requires c κs = search needs
-
 returns : tie.Need-returns
 unfolding rowAt
 returns c =
@@ -41,9 +23,6 @@ returns-2 c =
     let h2 = c .before .before .if1 .left in
     simp (whole (c .before .before .before .before .before .before .before .before .args .t .now) (c .before .before .before .before .before .before .before .before .args .at) 5 (c .before .before .before .before .before .before .before .before .pre), c .before .before .before .before .place-at .ensures .0, lt-ltb, le-ltb)
 
-has-word-requires : tie.Need-has-word-requires
-has-word-requires c κs = search needs
-
 returns-3 : tie.Need-returns-3
 unfolding rowAt
 returns-3 c =
@@ -51,12 +30,6 @@ returns-3 c =
     let h1 = c .before .before .if2 .left in
     let h2 = c .before .before .before .before .if1 .left in
     simp (whole (c .before .before .before .before .before .before .before .before .before .before .args .t .now) (c .before .before .before .before .before .before .before .before .before .before .args .at) 5 (c .before .before .before .before .before .before .before .before .before .before .pre), c .before .before .before .before .before .before .place-at .ensures .0, w, lt-ltb, le-ltb)
-
-cast-t13 : tie.Need-cast-t13
-cast-t13 c = search needs
-
-add-t7 : tie.Need-add-t7
-add-t7 c = search needs
 
 returns-4 : tie.Need-returns-4
 unfolding rowAt
@@ -70,16 +43,16 @@ pub read-load-fixed-spec : {M : Type 1} → statement M
 read-load-fixed-spec =
     tie.close
     (tie.spec
-    add-dest
-    shared-slice-read-dest
-    add-array
-    shared-slice-read-array
-    add-place-at
-    place-at-requires
+    (λ c. search needs)
+    (λ c. search needs)
+    (λ c. search needs)
+    (λ c. search needs)
+    (λ c. search needs)
+    (λ c κs. search needs)
     returns
     returns-2
-    has-word-requires
+    (λ c κs. search needs)
     returns-3
-    cast-t13
-    add-t7
+    (λ c. search needs)
+    (λ c. search needs)
     returns-4)

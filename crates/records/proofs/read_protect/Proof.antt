@@ -7,18 +7,6 @@ use Rattle.records.proofs.read_protect.Tie as tie
 use Rattle.records.proofs.read_protect.Reads as reads
 use Rattle.records.proofs.read_protect.Lts as lts
 
-add-dest : tie.Need-add-dest
-add-dest c = search needs
-
-shared-slice-read-dest : tie.Need-shared-slice-read-dest
-shared-slice-read-dest c = search needs
-
-add-source : tie.Need-add-source
-add-source c = search needs
-
-shared-slice-read-source : tie.Need-shared-slice-read-source
-shared-slice-read-source c = search needs
-
 returns : tie.Need-returns
 unfolding rowAt
 returns c =
@@ -32,9 +20,6 @@ returns-2 c =
     let h2 = c .before .before .if1 .left in
     simp (whole (c .before .before .before .before .before .before .args .t .now) (c .before .before .before .before .before .before .args .at) 3 (c .before .before .before .before .before .before .pre), lt-ltb, le-ltb)
 
-add-t6 : tie.Need-add-t6
-add-t6 c = search needs
-
 returns-3 : tie.Need-returns-3
 unfolding rowAt
 returns-3 c =
@@ -46,11 +31,11 @@ pub read-protect-spec : {M : Type 1} → statement M
 read-protect-spec =
     tie.close
     (tie.spec
-    add-dest
-    shared-slice-read-dest
-    add-source
-    shared-slice-read-source
+    (λ c. search needs)
+    (λ c. search needs)
+    (λ c. search needs)
+    (λ c. search needs)
     returns
     returns-2
-    add-t6
+    (λ c. search needs)
     returns-3)

@@ -7,30 +7,6 @@ use Rattle.records.proofs.read_select.Tie as tie
 use Rattle.records.proofs.read_select.Reads as reads
 use Rattle.records.proofs.read_select.Lts as lts
 
-add-dest : tie.Need-add-dest
-add-dest c = search needs
-
-shared-slice-read-dest : tie.Need-shared-slice-read-dest
-shared-slice-read-dest c = search needs
-
-add-cond : tie.Need-add-cond
-add-cond c = search needs
-
-shared-slice-read-cond : tie.Need-shared-slice-read-cond
-shared-slice-read-cond c = search needs
-
-add-yes : tie.Need-add-yes
-add-yes c = search needs
-
-shared-slice-read-yes : tie.Need-shared-slice-read-yes
-shared-slice-read-yes c = search needs
-
-add-no : tie.Need-add-no
-add-no c = search needs
-
-shared-slice-read-no : tie.Need-shared-slice-read-no
-shared-slice-read-no c = search needs
-
 returns : tie.Need-returns
 unfolding rowAt
 returns c =
@@ -61,9 +37,6 @@ returns-4 c =
     let h4 = c .before .before .before .before .before .before .if1 .left in
     simp (whole (c .before .before .before .before .before .before .before .before .before .before .before .before .args .t .now) (c .before .before .before .before .before .before .before .before .before .before .before .before .args .at) 5 (c .before .before .before .before .before .before .before .before .before .before .before .before .pre), lt-ltb, le-ltb)
 
-add-t8 : tie.Need-add-t8
-add-t8 c = search needs
-
 returns-5 : tie.Need-returns-5
 unfolding rowAt
 returns-5 c =
@@ -77,17 +50,17 @@ pub read-select-spec : {M : Type 1} → statement M
 read-select-spec =
     tie.close
     (tie.spec
-    add-dest
-    shared-slice-read-dest
-    add-cond
-    shared-slice-read-cond
-    add-yes
-    shared-slice-read-yes
-    add-no
-    shared-slice-read-no
+    (λ c. search needs)
+    (λ c. search needs)
+    (λ c. search needs)
+    (λ c. search needs)
+    (λ c. search needs)
+    (λ c. search needs)
+    (λ c. search needs)
+    (λ c. search needs)
     returns
     returns-2
     returns-3
     returns-4
-    add-t8
+    (λ c. search needs)
     returns-5)

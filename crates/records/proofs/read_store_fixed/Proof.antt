@@ -10,32 +10,11 @@ use Rattle.records.proofs.read_store_fixed.Lts as lts
 use Rattle.format.proofs.place_at.Reads as place-at-reads
 use Rattle.records.proofs.has_word.Reads as has-word-reads
 
-add-array : tie.Need-add-array
-add-array c = search needs
-
-shared-slice-read-array : tie.Need-shared-slice-read-array
-shared-slice-read-array c = search needs
-
-add-place-at : tie.Need-add-place-at
-add-place-at c = search needs
-
-place-at-requires : tie.Need-place-at-requires
-place-at-requires c κs = search needs
-
-add-source : tie.Need-add-source
-add-source c = search needs
-
-shared-slice-read-source : tie.Need-shared-slice-read-source
-shared-slice-read-source c = search needs
-
 returns : tie.Need-returns
 unfolding rowAt
 returns c =
     let h1 = c .if1 .taken in
     simp (whole (c .before .before .before .before .before .before .args .t .now) (c .before .before .before .before .before .before .args .at) 5 (c .before .before .before .before .before .before .pre), c .before .before .before .place-at .ensures .0, lt-ltb, le-ltb)
-
-has-word-requires : tie.Need-has-word-requires
-has-word-requires c κs = search needs
 
 returns-2 : tie.Need-returns-2
 unfolding rowAt
@@ -52,12 +31,6 @@ returns-3 c =
     let h2 = c .before .before .before .before .if1 .left in
     simp (whole (c .before .before .before .before .before .before .before .before .before .before .args .t .now) (c .before .before .before .before .before .before .before .before .before .before .args .at) 5 (c .before .before .before .before .before .before .before .before .before .before .pre), c .before .before .before .before .before .before .before .place-at .ensures .0, w, lt-ltb, le-ltb)
 
-cast-t13 : tie.Need-cast-t13
-cast-t13 c = search needs
-
-add-t7 : tie.Need-add-t7
-add-t7 c = search needs
-
 returns-4 : tie.Need-returns-4
 unfolding rowAt
 returns-4 c =
@@ -70,16 +43,16 @@ pub read-store-fixed-spec : {M : Type 1} → statement M
 read-store-fixed-spec =
     tie.close
     (tie.spec
-    add-array
-    shared-slice-read-array
-    add-place-at
-    place-at-requires
-    add-source
-    shared-slice-read-source
+    (λ c. search needs)
+    (λ c. search needs)
+    (λ c. search needs)
+    (λ c κs. search needs)
+    (λ c. search needs)
+    (λ c. search needs)
     returns
-    has-word-requires
+    (λ c κs. search needs)
     returns-2
     returns-3
-    cast-t13
-    add-t7
+    (λ c. search needs)
+    (λ c. search needs)
     returns-4)

@@ -7,18 +7,6 @@ use Rattle.records.proofs.read_update.Tie as tie
 use Rattle.records.proofs.read_update.Reads as reads
 use Rattle.records.proofs.read_update.Lts as lts
 
-add-register : tie.Need-add-register
-add-register c = search needs
-
-shared-slice-read-register : tie.Need-shared-slice-read-register
-shared-slice-read-register c = search needs
-
-add-sense : tie.Need-add-sense
-add-sense c = search needs
-
-shared-slice-read-sense : tie.Need-shared-slice-read-sense
-shared-slice-read-sense c = search needs
-
 returns : tie.Need-returns
 unfolding rowAt
 returns c =
@@ -32,9 +20,6 @@ returns-2 c =
     let h2 = c .before .if1 .left in
     simp (whole (c .before .before .before .before .before .args .t .now) (c .before .before .before .before .before .args .at) 3 (c .before .before .before .before .before .pre), lt-ltb, le-ltb)
 
-add-t6 : tie.Need-add-t6
-add-t6 c = search needs
-
 returns-3 : tie.Need-returns-3
 unfolding rowAt
 returns-3 c =
@@ -46,11 +31,11 @@ pub read-update-spec : {M : Type 1} → statement M
 read-update-spec =
     tie.close
     (tie.spec
-    add-register
-    shared-slice-read-register
-    add-sense
-    shared-slice-read-sense
+    (λ c. search needs)
+    (λ c. search needs)
+    (λ c. search needs)
+    (λ c. search needs)
     returns
     returns-2
-    add-t6
+    (λ c. search needs)
     returns-3)

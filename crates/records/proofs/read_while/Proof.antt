@@ -11,33 +11,12 @@ use Rattle.format.proofs.packed_at.Reads as packed-at-reads
 use Rattle.format.proofs.place_at.Reads as place-at-reads
 use Rattle.format.proofs.packed_in.Reads as packed-in-reads
 
-add-register : tie.Need-add-register
-add-register c = search needs
-
-shared-slice-read-register : tie.Need-shared-slice-read-register
-shared-slice-read-register c = search needs
-
-add-place-at : tie.Need-add-place-at
-add-place-at c = search needs
-
-place-at-requires : tie.Need-place-at-requires
-place-at-requires c κs = search needs
-
-add-packed-at : tie.Need-add-packed-at
-add-packed-at c = search needs
-
-packed-at-requires : tie.Need-packed-at-requires
-packed-at-requires c κs = search needs
-
 returns : tie.Need-returns
 unfolding rowAt
 returns c =
     let h1 = c .if1 .taken in
     let v = c .before .before .packed-at .ensures in
     simp (whole (c .before .before .before .before .before .before .args .t .now) (c .before .before .before .before .before .before .args .at) 11 (c .before .before .before .before .before .before .pre), c .before .before .before .place-at .ensures .0, v, lt-ltb, le-ltb)
-
-packed-in-requires : tie.Need-packed-in-requires
-packed-in-requires c κs = search needs
 
 returns-2 : tie.Need-returns-2
 unfolding rowAt
@@ -46,9 +25,6 @@ returns-2 c =
     let v = c .before .before .before .before .packed-at .ensures in
     let e = simp v at (sym (c .before .packed-in .ensures) ∙ not-true _ (c .if2 .taken)) in
     simp (whole (c .before .before .before .before .before .before .before .before .args .t .now) (c .before .before .before .before .before .before .before .before .args .at) 11 (c .before .before .before .before .before .before .before .before .pre), c .before .before .before .before .before .place-at .ensures .0, v, e, lt-ltb, le-ltb)
-
-add-t7 : tie.Need-add-t7
-add-t7 c = search needs
 
 returns-3 : tie.Need-returns-3
 unfolding rowAt
@@ -62,14 +38,14 @@ pub read-while-spec : {M : Type 1} → statement M
 read-while-spec =
     tie.close
     (tie.spec
-    add-register
-    shared-slice-read-register
-    add-place-at
-    place-at-requires
-    add-packed-at
-    packed-at-requires
+    (λ c. search needs)
+    (λ c. search needs)
+    (λ c. search needs)
+    (λ c κs. search needs)
+    (λ c. search needs)
+    (λ c κs. search needs)
     returns
-    packed-in-requires
+    (λ c κs. search needs)
     returns-2
-    add-t7
+    (λ c. search needs)
     returns-3)

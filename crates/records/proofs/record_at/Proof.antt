@@ -15,18 +15,6 @@ returns c =
     let l = c .if1 .taken in
     rw (record-bad (a .z) (a .t .now) (a .at) (decode-past (a .z) (a .t .now) (a .at) l), next-end (a .z) (a .t .now) (a .at) l) (refl, refl)
 
-decode-requires : tie.Need-decode-requires
-decode-requires c κs = search needs
-
-enum-known-d : tie.Need-enum-known-d
-enum-known-d c = search needs
-
-add-t14 : tie.Need-add-t14
-add-t14 c = search needs
-
-enum-known-d-2 : tie.Need-enum-known-d-2
-enum-known-d-2 c = search needs
-
 returns-2 : tie.Need-returns-2
 returns-2 c =
     let a = c .before .before .before .before .before .before .args in
@@ -41,4 +29,4 @@ returns-3 c =
 
 pub record-at-spec : {M : Type 1} → statement M
 record-at-spec =
-    tie.close (tie.spec returns decode-requires enum-known-d add-t14 enum-known-d-2 returns-2 returns-3)
+    tie.close (tie.spec returns (λ c κs. search needs) (λ c. search needs) (λ c. search needs) (λ c. search needs) returns-2 returns-3)

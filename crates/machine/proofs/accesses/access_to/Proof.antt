@@ -12,12 +12,6 @@ use Rattle.machine.proofs.memory.words_of.Reads as words-of-reads
 use Rattle.machine.proofs.makers.is_plain.Reads as is-plain-reads
 use Rattle.machine.proofs.accesses.stray_to.Reads as stray-to-reads
 
-words-of-requires : tie.Need-words-of-requires
-words-of-requires c κs = search needs
-
-is-plain-requires : tie.Need-is-plain-requires
-is-plain-requires c κs = search needs
-
 returns : tie.Need-returns
 returns c =
     let a = c .before .before .before .before .before .args in
@@ -33,9 +27,6 @@ returns-3 c =
     let a = c .before .before .before .before .args in
     access-out (tableWith (a .z) (a .t .now)) (a .a) (a .i) (a .mis) (a .dir) (subst (λ (n : ℕ). n ≤ a .i) (c .before .before .words-of .ensures .0) (c .before .if1 .left)) (not-true (a .mis) (c .if3 .taken))
 
-stray-to-requires : tie.Need-stray-to-requires
-stray-to-requires c κs = search needs
-
 returns-4 : tie.Need-returns-4
 returns-4 c =
     let a = c .before .before .before .before .before .args in
@@ -45,10 +36,10 @@ pub access-to-spec : {M : Type 1} → statement M
 access-to-spec =
     tie.close
     (tie.spec
-    words-of-requires
-    is-plain-requires
+    (λ c κs. search needs)
+    (λ c κs. search needs)
     returns
     returns-2
     returns-3
-    stray-to-requires
+    (λ c κs. search needs)
     returns-4)

@@ -7,23 +7,11 @@ use Rattle.machine.proofs.bytes.back_at.Reads as reads
 use Rattle.machine.proofs.bytes.back_at.Lts as lts
 use Rattle.format.proofs.place_at.Reads as place-at-reads
 
-sub-if1 : tie.Need-sub-if1
-sub-if1 c = search needs
-
 returns : tie.Need-returns
 unfolding backAt
 returns c =
     let h1 = c .if1 .taken in
     simp (lt-ltb, le-ltb)
-
-add-place-at : tie.Need-add-place-at
-add-place-at c = search needs
-
-place-at-requires : tie.Need-place-at-requires
-place-at-requires c κs = search needs
-
-add-t5 : tie.Need-add-t5
-add-t5 c = search needs
 
 returns-2 : tie.Need-returns-2
 unfolding backAt
@@ -32,4 +20,4 @@ returns-2 c =
     simp (c .place-at .ensures .0, lt-ltb, le-ltb)
 
 pub back-at-spec : {M : Type 1} → statement M
-back-at-spec = tie.close (tie.spec sub-if1 returns add-place-at place-at-requires add-t5 returns-2)
+back-at-spec = tie.close (tie.spec (λ c. search needs) returns (λ c. search needs) (λ c κs. search needs) (λ c. search needs) returns-2)

@@ -6,20 +6,11 @@ use Rattle.machine.proofs.bytes.branch_at.Tie as tie
 use Rattle.machine.proofs.bytes.branch_at.Reads as reads
 use Rattle.machine.proofs.bytes.branch_at.Lts as lts
 
-sub-if1 : tie.Need-sub-if1
-sub-if1 c = search needs
-
 returns : tie.Need-returns
 unfolding branchAt
 returns c =
     let h1 = c .if1 .taken in
     simp (lt-ltb, le-ltb)
-
-add-way : tie.Need-add-way
-add-way c = search needs
-
-shared-slice-read-way : tie.Need-shared-slice-read-way
-shared-slice-read-way c = search needs
 
 returns-2 : tie.Need-returns-2
 unfolding branchAt
@@ -27,9 +18,6 @@ returns-2 c =
     let h1 = c .if2 .taken in
     let h2 = c .before .before .if1 .left in
     simp (lt-ltb, le-ltb)
-
-add-t5 : tie.Need-add-t5
-add-t5 c = search needs
 
 returns-3 : tie.Need-returns-3
 unfolding branchAt
@@ -40,4 +28,4 @@ returns-3 c =
 
 pub branch-at-spec : {M : Type 1} → statement M
 branch-at-spec =
-    tie.close (tie.spec sub-if1 returns add-way shared-slice-read-way returns-2 add-t5 returns-3)
+    tie.close (tie.spec (λ c. search needs) returns (λ c. search needs) (λ c. search needs) returns-2 (λ c. search needs) returns-3)

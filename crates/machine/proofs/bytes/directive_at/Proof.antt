@@ -9,21 +9,6 @@ use Rattle.machine.proofs.bytes.back_at.Reads as back-at-reads
 use Rattle.machine.proofs.bytes.branch_at.Reads as branch-at-reads
 use Rattle.machine.proofs.bytes.stray_at.Reads as stray-at-reads
 
-shared-slice-read-kind : tie.Need-shared-slice-read-kind
-shared-slice-read-kind c = search needs
-
-add-t8 : tie.Need-add-t8
-add-t8 c = search needs
-
-branch-at-requires : tie.Need-branch-at-requires
-branch-at-requires c κs = search needs
-
-stray-at-requires : tie.Need-stray-at-requires
-stray-at-requires c κs = search needs
-
-back-at-requires : tie.Need-back-at-requires
-back-at-requires c κs = search needs
-
 returns : tie.Need-returns
 unfolding directiveAt
 returns c =
@@ -57,11 +42,11 @@ pub directive-at-spec : {M : Type 1} → statement M
 directive-at-spec =
     tie.close
     (tie.spec
-    shared-slice-read-kind
-    add-t8
-    branch-at-requires
-    stray-at-requires
-    back-at-requires
+    (λ c. search needs)
+    (λ c. search needs)
+    (λ c κs. search needs)
+    (λ c κs. search needs)
+    (λ c κs. search needs)
     returns
     returns-2
     returns-3

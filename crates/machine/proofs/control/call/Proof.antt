@@ -13,22 +13,10 @@ use Rattle.machine.proofs.makers.is_plain.Reads as is-plain-reads
 use Rattle.machine.proofs.control.pushed.Reads as pushed-reads
 use Rattle.machine.proofs.makers.stop.Reads as stop-reads
 
-is-plain-requires : tie.Need-is-plain-requires
-is-plain-requires c κs = search needs
-
-pushed-requires : tie.Need-pushed-requires
-pushed-requires c κs = search needs
-
-go-requires : tie.Need-go-requires
-go-requires c κs = search needs
-
 returns : tie.Need-returns
 returns c =
     let a = c .before .before .before .before .args in
     (λ t m n. goes-plain t (a .s) (c .go .result) (dataOf (a .s) m n) (a .dir) (sym (c .before .before .before .is-plain .ensures) ∙ c .before .before .if1 .taken) (c .go .ensures) (c .before .pushed .ensures), λ t. lands t (c .go .result) (c .go .ensures .2) tt)
-
-stop-requires : tie.Need-stop-requires
-stop-requires c κs = search needs
 
 returns-2 : tie.Need-returns-2
 returns-2 c =
@@ -38,4 +26,4 @@ returns-2 c =
 pub call-spec : {M : Type 1} → statement M
 call-spec =
     tie.close
-    (tie.spec is-plain-requires pushed-requires go-requires returns stop-requires returns-2)
+    (tie.spec (λ c κs. search needs) (λ c κs. search needs) (λ c κs. search needs) returns (λ c κs. search needs) returns-2)

@@ -14,36 +14,6 @@ use Rattle.machine.proofs.values.is_true.Reads as is-true-reads
 use Rattle.machine.proofs.makers.stop.Reads as stop-reads
 use Rattle.machine.proofs.control.went.Reads as went-reads
 
-enum-told : tie.Need-enum-told
-enum-told c = search needs
-
-stop-requires : tie.Need-stop-requires
-stop-requires c κs = search needs
-
-enum-known-dir : tie.Need-enum-known-dir
-enum-known-dir c = search needs
-
-stop-requires-2 : tie.Need-stop-requires-2
-stop-requires-2 c κs = search needs
-
-enum-known-dir-2 : tie.Need-enum-known-dir-2
-enum-known-dir-2 c = search needs
-
-stop-requires-3 : tie.Need-stop-requires-3
-stop-requires-3 c κs = search needs
-
-enum-known-dir-3 : tie.Need-enum-known-dir-3
-enum-known-dir-3 c = search needs
-
-went-requires : tie.Need-went-requires
-went-requires c κs = search needs
-
-is-true-requires : tie.Need-is-true-requires
-is-true-requires c κs = search needs
-
-go-requires : tie.Need-go-requires
-go-requires c κs = search needs
-
 returns : tie.Need-returns
 returns c =
     let a = c .before .before .before .args in
@@ -69,16 +39,16 @@ pub forked-spec : {M : Type 1} → statement M
 forked-spec =
     tie.close
     (tie.spec
-    enum-told
-    stop-requires
-    enum-known-dir
-    stop-requires-2
-    enum-known-dir-2
-    stop-requires-3
-    enum-known-dir-3
-    went-requires
-    is-true-requires
-    go-requires
+    (λ c. search needs)
+    (λ c κs. search needs)
+    (λ c. search needs)
+    (λ c κs. search needs)
+    (λ c. search needs)
+    (λ c κs. search needs)
+    (λ c. search needs)
+    (λ c κs. search needs)
+    (λ c κs. search needs)
+    (λ c κs. search needs)
     returns
     returns-2
     returns-3

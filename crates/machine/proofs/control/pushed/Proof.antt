@@ -9,9 +9,6 @@ use Rattle.machine.proofs.control.pushed.Tie as tie
 use Rattle.machine.proofs.control.pushed.Reads as reads
 use Rattle.machine.proofs.control.pushed.Lts as lts
 
-cast-t5 : tie.Need-cast-t5
-cast-t5 c = search needs
-
 returns : tie.Need-returns
 returns c =
     let a = c .args in
@@ -19,4 +16,4 @@ returns c =
     (ap (λ (v : ℕ). record { place = a .place; stack = v ∷ stackOf (a .s .depth) (a .s .stack); mis = a .s .mis }) e, refl)
 
 pub pushed-spec : {M : Type 1} → statement M
-pushed-spec = tie.close (tie.spec cast-t5 returns)
+pushed-spec = tie.close (tie.spec (λ c. search needs) returns)

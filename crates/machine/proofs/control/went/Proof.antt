@@ -8,17 +8,8 @@ use Rattle.machine.proofs.values.condition.Reads as condition-reads
 use Rattle.machine.proofs.control.mis_by.Reads as mis-by-reads
 use Rattle.machine.proofs.control.place_by.Reads as place-by-reads
 
-place-by-requires : tie.Need-place-by-requires
-place-by-requires c κs = search needs
-
-condition-requires : tie.Need-condition-requires
-condition-requires c κs = search needs
-
-mis-by-requires : tie.Need-mis-by-requires
-mis-by-requires c κs = search needs
-
 returns : tie.Need-returns
 returns c = (rw (c .mis-by .ensures, c .before .condition .ensures, c .before .before .place-by .ensures) refl, refl)
 
 pub went-spec : {M : Type 1} → statement M
-went-spec = tie.close (tie.spec place-by-requires condition-requires mis-by-requires returns)
+went-spec = tie.close (tie.spec (λ c κs. search needs) (λ c κs. search needs) (λ c κs. search needs) returns)

@@ -12,20 +12,8 @@ use Rattle.machine.proofs.makers.go.Reads as go-reads
 use Rattle.machine.proofs.makers.is_plain.Reads as is-plain-reads
 use Rattle.machine.proofs.makers.stop.Reads as stop-reads
 
-is-plain-requires : tie.Need-is-plain-requires
-is-plain-requires c κs = search needs
-
-at-place-requires : tie.Need-at-place-requires
-at-place-requires c κs = search needs
-
-go-requires : tie.Need-go-requires
-go-requires c κs = search needs
-
 returns : tie.Need-returns
 returns c = (λ t x. goes-plain t (c .before .before .before .before .args .s) (c .go .result) x (c .before .before .before .before .args .dir) (sym (c .before .before .before .is-plain .ensures) ∙ c .before .before .if1 .taken) (c .go .ensures) (c .before .at-place .ensures), λ t l. lands t (c .go .result) (c .go .ensures .2) l)
-
-stop-requires : tie.Need-stop-requires
-stop-requires c κs = search needs
 
 returns-2 : tie.Need-returns-2
 returns-2 c =
@@ -35,4 +23,4 @@ returns-2 c =
 pub plain-to-spec : {M : Type 1} → statement M
 plain-to-spec =
     tie.close
-    (tie.spec is-plain-requires at-place-requires go-requires returns stop-requires returns-2)
+    (tie.spec (λ c κs. search needs) (λ c κs. search needs) (λ c κs. search needs) returns (λ c κs. search needs) returns-2)

@@ -24,92 +24,45 @@ abbrev offset-from-below : ℕ → In 1 offset-from-kinds.ps
 offset-from-below t =
     and 1 offset-from-kinds.ps (falls 1 offset-from-kinds.ps _<_ μ-offset-from t) offset-from.Pre
 
-offset-from-returns : (t : ℕ) → offset-from-lts.Need-returns (
-  words-at-reads.Asked,
-  words-at-reads.Learnt,
-  offset-from-below t,
-  offset-from.Post,
-) (offset-from-at t) offset-from.Post
+abbrev offset-from-claims : ℕ → offset-from-lts.Claims
+offset-from-claims t = (words-at-reads.Asked, words-at-reads.Learnt, offset-from-below t, offset-from.Post)
+
+offset-from-returns : (t : ℕ) → offset-from-lts.Need-returns (offset-from-claims t) (offset-from-at t) offset-from.Post
 offset-from-returns t c =
     let A = c .before .before .args in
     (sym (offset-none (A .z) (A .t .now) (A .n) (A .b) (A .a) (c .if1 .taken)), omega arith)
 
-offset-from-returns-2 : (t : ℕ) → offset-from-lts.Need-returns-2 (
-  words-at-reads.Asked,
-  words-at-reads.Learnt,
-  offset-from-below t,
-  offset-from.Post,
-) (offset-from-at t) offset-from.Post
+offset-from-returns-2 : (t : ℕ) → offset-from-lts.Need-returns-2 (offset-from-claims t) (offset-from-at t) offset-from.Post
 offset-from-returns-2 t c =
     let A = c .before .before .before .args in
     (sym (offset-first (wordsFrom (A .z) (A .t .now) (A .n) (A .b)) (A .a) (c .if2 .taken)), omega arith)
 
-offset-from-words-at-requires : (t : ℕ) → offset-from-lts.Need-words-at-requires (
-  words-at-reads.Asked,
-  words-at-reads.Learnt,
-  offset-from-below t,
-  offset-from.Post,
-) (offset-from-at t) offset-from.Post
+offset-from-words-at-requires : (t : ℕ) → offset-from-lts.Need-words-at-requires (offset-from-claims t) (offset-from-at t) offset-from.Post
 offset-from-words-at-requires t c κs = search needs
 
-offset-from-sub-offset-from : (t : ℕ) → offset-from-lts.Need-sub-offset-from (
-  words-at-reads.Asked,
-  words-at-reads.Learnt,
-  offset-from-below t,
-  offset-from.Post,
-) (offset-from-at t) offset-from.Post
+offset-from-sub-offset-from : (t : ℕ) → offset-from-lts.Need-sub-offset-from (offset-from-claims t) (offset-from-at t) offset-from.Post
 offset-from-sub-offset-from t c = search needs
 
-offset-from-add-offset-from : (t : ℕ) → offset-from-lts.Need-add-offset-from (
-  words-at-reads.Asked,
-  words-at-reads.Learnt,
-  offset-from-below t,
-  offset-from.Post,
-) (offset-from-at t) offset-from.Post
+offset-from-add-offset-from : (t : ℕ) → offset-from-lts.Need-add-offset-from (offset-from-claims t) (offset-from-at t) offset-from.Post
 offset-from-add-offset-from t c = search needs
 
-offset-from-sub-offset-from-2 : (t : ℕ) → offset-from-lts.Need-sub-offset-from-2 (
-  words-at-reads.Asked,
-  words-at-reads.Learnt,
-  offset-from-below t,
-  offset-from.Post,
-) (offset-from-at t) offset-from.Post
+offset-from-sub-offset-from-2 : (t : ℕ) → offset-from-lts.Need-sub-offset-from-2 (offset-from-claims t) (offset-from-at t) offset-from.Post
 offset-from-sub-offset-from-2 t c = search needs
 
-offset-from-offset-from-requires : (t : ℕ) → offset-from-lts.Need-offset-from-requires (
-  words-at-reads.Asked,
-  words-at-reads.Learnt,
-  offset-from-below t,
-  offset-from.Post,
-) (offset-from-at t) offset-from.Post
+offset-from-offset-from-requires : (t : ℕ) → offset-from-lts.Need-offset-from-requires (offset-from-claims t) (offset-from-at t) offset-from.Post
 offset-from-offset-from-requires t c κs = search needs
 
-offset-from-add-result : (t : ℕ) → offset-from-lts.Need-add-result (
-  words-at-reads.Asked,
-  words-at-reads.Learnt,
-  offset-from-below t,
-  offset-from.Post,
-) (offset-from-at t) offset-from.Post
+offset-from-add-result : (t : ℕ) → offset-from-lts.Need-add-result (offset-from-claims t) (offset-from-at t) offset-from.Post
 offset-from-add-result t c = search needs
 
-offset-from-returns-3 : (t : ℕ) → offset-from-lts.Need-returns-3 (
-  words-at-reads.Asked,
-  words-at-reads.Learnt,
-  offset-from-below t,
-  offset-from.Post,
-) (offset-from-at t) offset-from.Post
+offset-from-returns-3 : (t : ℕ) → offset-from-lts.Need-returns-3 (offset-from-claims t) (offset-from-at t) offset-from.Post
 offset-from-returns-3 t c =
     let A = c .before .before .before .before .before .args in
     let e = offset-is (A .z) (A .t .now) (A .n) (A .b) (A .a) (c .before .before .before .if1 .left) (c .before .before .if2 .left) in
     (rw (e, c .before .words-at .ensures .0, c .offset-from .ensures .0), omega (arith, c .before .words-at .ensures .1, c .offset-from .ensures .1))
 
 pub +offset-from-spec : {M : Type 1} → statement M
-+offset-from-spec = close μ-offset-from λ t. offset-from-lts.spec (
-  words-at-reads.Asked,
-  words-at-reads.Learnt,
-  offset-from-below t,
-  offset-from.Post,
-)
++offset-from-spec = close μ-offset-from λ t. offset-from-lts.spec (offset-from-claims t)
     (offset-from-at t)
     offset-from.Post
     (offset-from-returns t)

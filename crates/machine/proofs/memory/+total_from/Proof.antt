@@ -23,74 +23,37 @@ abbrev total-from-below : ℕ → In 1 total-from-kinds.ps
 total-from-below t =
     and 1 total-from-kinds.ps (falls 1 total-from-kinds.ps _<_ μ-total-from t) total-from.Pre
 
-total-from-returns : (t : ℕ) → total-from-lts.Need-returns (
-  words-at-reads.Asked,
-  words-at-reads.Learnt,
-  total-from-below t,
-  total-from.Post,
-) (total-from-at t) total-from.Post
+abbrev total-from-claims : ℕ → total-from-lts.Claims
+total-from-claims t = (words-at-reads.Asked, words-at-reads.Learnt, total-from-below t, total-from.Post)
+
+total-from-returns : (t : ℕ) → total-from-lts.Need-returns (total-from-claims t) (total-from-at t) total-from.Post
 total-from-returns t c =
     let A = c .before .before .args in
     (sym (total-none (A .z) (A .t .now) (A .n) (A .a) (c .if1 .taken)), omega arith)
 
-total-from-words-at-requires : (t : ℕ) → total-from-lts.Need-words-at-requires (
-  words-at-reads.Asked,
-  words-at-reads.Learnt,
-  total-from-below t,
-  total-from.Post,
-) (total-from-at t) total-from.Post
+total-from-words-at-requires : (t : ℕ) → total-from-lts.Need-words-at-requires (total-from-claims t) (total-from-at t) total-from.Post
 total-from-words-at-requires t c κs = search needs
 
-total-from-sub-total-from : (t : ℕ) → total-from-lts.Need-sub-total-from (
-  words-at-reads.Asked,
-  words-at-reads.Learnt,
-  total-from-below t,
-  total-from.Post,
-) (total-from-at t) total-from.Post
+total-from-sub-total-from : (t : ℕ) → total-from-lts.Need-sub-total-from (total-from-claims t) (total-from-at t) total-from.Post
 total-from-sub-total-from t c = search needs
 
-total-from-add-total-from : (t : ℕ) → total-from-lts.Need-add-total-from (
-  words-at-reads.Asked,
-  words-at-reads.Learnt,
-  total-from-below t,
-  total-from.Post,
-) (total-from-at t) total-from.Post
+total-from-add-total-from : (t : ℕ) → total-from-lts.Need-add-total-from (total-from-claims t) (total-from-at t) total-from.Post
 total-from-add-total-from t c = search needs
 
-total-from-total-from-requires : (t : ℕ) → total-from-lts.Need-total-from-requires (
-  words-at-reads.Asked,
-  words-at-reads.Learnt,
-  total-from-below t,
-  total-from.Post,
-) (total-from-at t) total-from.Post
+total-from-total-from-requires : (t : ℕ) → total-from-lts.Need-total-from-requires (total-from-claims t) (total-from-at t) total-from.Post
 total-from-total-from-requires t c κs = search needs
 
-total-from-add-result : (t : ℕ) → total-from-lts.Need-add-result (
-  words-at-reads.Asked,
-  words-at-reads.Learnt,
-  total-from-below t,
-  total-from.Post,
-) (total-from-at t) total-from.Post
+total-from-add-result : (t : ℕ) → total-from-lts.Need-add-result (total-from-claims t) (total-from-at t) total-from.Post
 total-from-add-result t c = search needs
 
-total-from-returns-2 : (t : ℕ) → total-from-lts.Need-returns-2 (
-  words-at-reads.Asked,
-  words-at-reads.Learnt,
-  total-from-below t,
-  total-from.Post,
-) (total-from-at t) total-from.Post
+total-from-returns-2 : (t : ℕ) → total-from-lts.Need-returns-2 (total-from-claims t) (total-from-at t) total-from.Post
 total-from-returns-2 t c =
     let A = c .before .before .before .before .args in
     let e = total-is (A .z) (A .t .now) (A .n) (A .a) (c .before .before .if1 .left) in
     (rw (e, c .before .words-at .ensures .0, c .total-from .ensures .0), omega (arith, c .before .words-at .ensures .1, c .total-from .ensures .1))
 
 pub +total-from-spec : {M : Type 1} → statement M
-+total-from-spec = close μ-total-from λ t. total-from-lts.spec (
-  words-at-reads.Asked,
-  words-at-reads.Learnt,
-  total-from-below t,
-  total-from.Post,
-)
++total-from-spec = close μ-total-from λ t. total-from-lts.spec (total-from-claims t)
     (total-from-at t)
     total-from.Post
     (total-from-returns t)

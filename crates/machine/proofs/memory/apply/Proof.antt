@@ -6,21 +6,6 @@ use Rattle.machine.proofs.memory.apply.Lts as lts
 use Rattle.machine.proofs.memory.put.Reads as put-reads
 use Rattle.machine.proofs.memory.store.Reads as store-reads
 
-enum-told : tie.Need-enum-told
-enum-told c = search needs
-
-enum-known-e : tie.Need-enum-known-e
-enum-known-e c = search needs
-
-cast-put : tie.Need-cast-put
-cast-put c = search needs
-
-put-requires : tie.Need-put-requires
-put-requires c κs = search needs
-
-enum-known-e-2 : tie.Need-enum-known-e-2
-enum-known-e-2 c = search needs
-
 store-requires : tie.Need-store-requires
 store-requires c κs =
     let s = c .before .before .before .before .before .before .before in
@@ -29,14 +14,8 @@ store-requires c κs =
 returns : tie.Need-returns
 returns c m = rw (c .enum-told .given .1)
 
-same-length : tie.Need-same-length
-same-length c = search needs
-
 returns-2 : tie.Need-returns-2
 returns-2 c m = rw (c .before .before .before .before .before .e .given .1, c .before .before .put .ensures)
-
-same-length-2 : tie.Need-same-length-2
-same-length-2 c = search needs
 
 returns-3 : tie.Need-returns-3
 returns-3 c m = rw (c .before .before .before .before .before .e2 .given .1, c .before .before .store .ensures)
@@ -45,14 +24,14 @@ pub apply-spec : {M : Type 1} → statement M
 apply-spec =
     tie.close
     (tie.spec
-    enum-told
-    enum-known-e
-    cast-put
-    put-requires
-    enum-known-e-2
+    (λ c. search needs)
+    (λ c. search needs)
+    (λ c. search needs)
+    (λ c κs. search needs)
+    (λ c. search needs)
     store-requires
     returns
-    same-length
+    (λ c. search needs)
     returns-2
-    same-length-2
+    (λ c. search needs)
     returns-3)

@@ -9,35 +9,11 @@ use Rattle.machine.proofs.memory.offset_of.Reads as offset-of-reads
 use Rattle.machine.proofs.memory.put.Reads as put-reads
 use Rattle.machine.proofs.memory.words_of.Reads as words-of-reads
 
-offset-of-requires : tie.Need-offset-of-requires
-offset-of-requires c κs = search needs
-
-words-of-requires : tie.Need-words-of-requires
-words-of-requires c κs = search needs
-
-add-to : tie.Need-add-to
-add-to c = search needs
-
-mul-put : tie.Need-mul-put
-mul-put c = search needs
-
-sub-put : tie.Need-sub-put
-sub-put c = search needs
-
-part-put-start : tie.Need-part-put-start
-part-put-start c = search needs
-
 part-put-end : tie.Need-part-put-end
 part-put-end c =
     let A = c .before .before .before .before .args in
     let e = array-end (wordsFrom (A .z) (A .t .now) (A .z .arrays) 0) (A .a) in
     rw (c .words-of .ensures .0, c .before .offset-of .ensures .0, c .before .before .before .before .pre .1) e
-
-put-requires : tie.Need-put-requires
-put-requires c κs = search needs
-
-same-length : tie.Need-same-length
-same-length c = search needs
 
 returns : tie.Need-returns
 returns c =
@@ -50,13 +26,13 @@ pub store-spec : {M : Type 1} → statement M
 store-spec =
     tie.close
     (tie.spec
-    offset-of-requires
-    words-of-requires
-    add-to
-    mul-put
-    sub-put
-    part-put-start
+    (λ c κs. search needs)
+    (λ c κs. search needs)
+    (λ c. search needs)
+    (λ c. search needs)
+    (λ c. search needs)
+    (λ c. search needs)
     part-put-end
-    put-requires
-    same-length
+    (λ c κs. search needs)
+    (λ c. search needs)
     returns)

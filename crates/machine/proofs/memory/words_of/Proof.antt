@@ -9,9 +9,6 @@ use Rattle.machine.proofs.memory.words_of.Reads as reads
 use Rattle.machine.proofs.memory.words_of.Lts as lts
 use Rattle.layout.proofs.words_at.Reads as words-at-reads
 
-words-at-requires : tie.Need-words-at-requires
-words-at-requires c κs = search needs
-
 returns : tie.Need-returns
 returns c =
     let A = c .before .before .before .before .args in
@@ -23,4 +20,4 @@ returns-2 c =
     (sym (words-out (A .z) (A .t .now) (A .z .arrays) 0 (A .a) (c .if1 .left)), omega arith)
 
 pub words-of-spec : {M : Type 1} → statement M
-words-of-spec = tie.close (tie.spec words-at-requires returns returns-2)
+words-of-spec = tie.close (tie.spec (λ c κs. search needs) returns returns-2)

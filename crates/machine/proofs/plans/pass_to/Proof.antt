@@ -6,11 +6,8 @@ use Rattle.machine.proofs.plans.pass_to.Reads as reads
 use Rattle.machine.proofs.plans.pass_to.Lts as lts
 use Rattle.machine.proofs.makers.plain_to.Reads as plain-to-reads
 
-plain-to-requires : tie.Need-plain-to-requires
-plain-to-requires c κs = search needs
-
 returns : tie.Need-returns
 returns c = (λ t m n. c .plain-to .ensures .0 t (dataOf (c .before .args .s) m n), λ t. c .plain-to .ensures .1 t tt)
 
 pub pass-to-spec : {M : Type 1} → statement M
-pass-to-spec = tie.close (tie.spec plain-to-requires returns)
+pass-to-spec = tie.close (tie.spec (λ c κs. search needs) returns)

@@ -20,32 +20,11 @@ use Rattle.machine.proofs.plans.pass_to.Reads as pass-to-reads
 use Rattle.machine.proofs.returns.returning.Reads as returning-reads
 use Rattle.machine.proofs.simple_records.simple.Reads as simple-reads
 
-decode-requires : tie.Need-decode-requires
-decode-requires c κs = search needs
-
-enum-known-d : tie.Need-enum-known-d
-enum-known-d c = search needs
-
-returning-requires : tie.Need-returning-requires
-returning-requires c κs = search needs
-
-enum-known-d-2 : tie.Need-enum-known-d-2
-enum-known-d-2 c = search needs
-
-enum-known-r : tie.Need-enum-known-r
-enum-known-r c = search needs
-
 simple-requires : tie.Need-simple-requires
 simple-requires c κs =
     let a = c .before .before .before .before .before .before .before .before .before .before .args in
     let t = a .t .now in
     good (a .z) t (a .s .place) (known (a .z) t (a .s .place) (c .before .before .before .before .before .before .decode .ensures) (c .before .before .before .before .d2 .given .1) (c .before .r .given .1)) .reaches
-
-enum-known-r-2 : tie.Need-enum-known-r-2
-enum-known-r-2 c = search needs
-
-start-of-requires : tie.Need-start-of-requires
-start-of-requires c κs = search needs
 
 call-requires : tie.Need-call-requires
 call-requires c κs =
@@ -54,27 +33,12 @@ call-requires c κs =
     let D = known (a .z) t (a .s .place) (c .before .before .before .before .before .before .before .decode .ensures) (c .before .before .before .before .before .d2 .given .1) (c .before .before .r2 .given .1) in
     omega (arith, good (a .z) t (a .s .place) D .whole, c .before .before .before .before .before .before .before .before .before .before .before .pre)
 
-enum-known-r-3 : tie.Need-enum-known-r-3
-enum-known-r-3 c = search needs
-
-cast-get : tie.Need-cast-get
-cast-get c = search needs
-
-get-requires : tie.Need-get-requires
-get-requires c κs = search needs
-
 add-forked : tie.Need-add-forked
 add-forked c =
     let a = c .before .before .before .before .before .before .before .before .before .before .before .args in
     let t = a .t .now in
     let D = known (a .z) t (a .s .place) (c .before .before .before .before .before .before .before .decode .ensures) (c .before .before .before .before .before .d2 .given .1) (c .before .before .r3 .given .1) in
     omega (arith, good (a .z) t (a .s .place) D .names, small-16 t (a .s .place + 2) (λ i. omega (arith, c .before .before .before .before .before .before .before .before .before .before .shared-slice-known .given i)))
-
-forked-requires : tie.Need-forked-requires
-forked-requires c κs = search needs
-
-enum-known-r-4 : tie.Need-enum-known-r-4
-enum-known-r-4 c = search needs
 
 add-pass-to : tie.Need-add-pass-to
 add-pass-to c =
@@ -83,45 +47,12 @@ add-pass-to c =
     let D = known (a .z) t (a .s .place) (c .before .before .before .before .before .before .decode .ensures) (c .before .before .before .before .d2 .given .1) (c .before .r4 .given .1) in
     omega (arith, good (a .z) t (a .s .place) D .names, small-16 t (a .s .place + 1) (λ i. omega (arith, c .before .before .before .before .before .before .before .before .before .shared-slice-known .given i)))
 
-pass-to-requires : tie.Need-pass-to-requires
-pass-to-requires c κs = search needs
-
-enum-told : tie.Need-enum-told
-enum-told c = search needs
-
-pass-to-requires-2 : tie.Need-pass-to-requires-2
-pass-to-requires-2 c κs = search needs
-
-enum-known-r-5 : tie.Need-enum-known-r-5
-enum-known-r-5 c = search needs
-
-cast-get-2 : tie.Need-cast-get-2
-cast-get-2 c = search needs
-
-get-requires-2 : tie.Need-get-requires-2
-get-requires-2 c κs = search needs
-
 add-forked-2 : tie.Need-add-forked-2
 add-forked-2 c =
     let a = c .before .before .before .before .before .before .before .before .before .before .before .args in
     let t = a .t .now in
     let D = known (a .z) t (a .s .place) (c .before .before .before .before .before .before .before .decode .ensures) (c .before .before .before .before .before .d2 .given .1) (c .before .before .r5 .given .1) in
     omega (arith, good (a .z) t (a .s .place) D .names, small-16 t (a .s .place + 2) (λ i. omega (arith, c .before .before .before .before .before .before .before .before .before .before .shared-slice-known .given i)))
-
-forked-requires-2 : tie.Need-forked-requires-2
-forked-requires-2 c κs = search needs
-
-enum-known-r-6 : tie.Need-enum-known-r-6
-enum-known-r-6 c = search needs
-
-pass-to-requires-3 : tie.Need-pass-to-requires-3
-pass-to-requires-3 c κs = search needs
-
-enum-told-2 : tie.Need-enum-told-2
-enum-told-2 c = search needs
-
-returning-requires-2 : tie.Need-returning-requires-2
-returning-requires-2 c κs = search needs
 
 returns : tie.Need-returns
 returns c =
@@ -229,34 +160,34 @@ pub plan-spec : {M : Type 1} → statement M
 plan-spec =
     tie.close
     (tie.spec
-    decode-requires
-    enum-known-d
-    returning-requires
-    enum-known-d-2
-    enum-known-r
+    (λ c κs. search needs)
+    (λ c. search needs)
+    (λ c κs. search needs)
+    (λ c. search needs)
+    (λ c. search needs)
     simple-requires
-    enum-known-r-2
-    start-of-requires
+    (λ c. search needs)
+    (λ c κs. search needs)
     call-requires
-    enum-known-r-3
-    cast-get
-    get-requires
+    (λ c. search needs)
+    (λ c. search needs)
+    (λ c κs. search needs)
     add-forked
-    forked-requires
-    enum-known-r-4
+    (λ c κs. search needs)
+    (λ c. search needs)
     add-pass-to
-    pass-to-requires
-    enum-told
-    pass-to-requires-2
-    enum-known-r-5
-    cast-get-2
-    get-requires-2
+    (λ c κs. search needs)
+    (λ c. search needs)
+    (λ c κs. search needs)
+    (λ c. search needs)
+    (λ c. search needs)
+    (λ c κs. search needs)
     add-forked-2
-    forked-requires-2
-    enum-known-r-6
-    pass-to-requires-3
-    enum-told-2
-    returning-requires-2
+    (λ c κs. search needs)
+    (λ c. search needs)
+    (λ c κs. search needs)
+    (λ c. search needs)
+    (λ c κs. search needs)
     returns
     returns-2
     returns-3

@@ -12,21 +12,6 @@ use Rattle.machine.proofs.makers.go.Reads as go-reads
 use Rattle.machine.proofs.returns.masked_by.Reads as masked-by-reads
 use Rattle.machine.proofs.makers.stop.Reads as stop-reads
 
-enum-told : tie.Need-enum-told
-enum-told c = search needs
-
-stop-requires : tie.Need-stop-requires
-stop-requires c κs = search needs
-
-enum-known-site : tie.Need-enum-known-site
-enum-known-site c = search needs
-
-masked-by-requires : tie.Need-masked-by-requires
-masked-by-requires c κs = search needs
-
-go-requires : tie.Need-go-requires
-go-requires c κs = search needs
-
 returns : tie.Need-returns
 returns c =
     let a = c .before .before .before .args in
@@ -41,10 +26,10 @@ pub astray-spec : {M : Type 1} → statement M
 astray-spec =
     tie.close
     (tie.spec
-    enum-told
-    stop-requires
-    enum-known-site
-    masked-by-requires
-    go-requires
+    (λ c. search needs)
+    (λ c κs. search needs)
+    (λ c. search needs)
+    (λ c κs. search needs)
+    (λ c κs. search needs)
     returns
     returns-2)

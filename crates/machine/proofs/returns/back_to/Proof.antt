@@ -20,29 +20,11 @@ use Rattle.machine.proofs.returns.popped.Reads as popped-reads
 use Rattle.machine.proofs.returns.site_of.Reads as site-of-reads
 use Rattle.machine.proofs.returns.top_is.Reads as top-is-reads
 
-top-is-requires : tie.Need-top-is-requires
-top-is-requires c κs = search needs
-
-popped-requires : tie.Need-popped-requires
-popped-requires c κs = search needs
-
-go-requires : tie.Need-go-requires
-go-requires c κs = search needs
-
 returns : tie.Need-returns
 returns c =
     let a = c .before .before .before .before .before .args in
     let T = tableWith (a .z) (a .t .now) in
     (λ m n. goes T (a .s) (c .go .result) (dataOf (a .s) m n) (c .go .ensures) (c .before .popped .ensures) ∙ right-top T (a .q) (ctlOf (a .s)) (dataOf (a .s) m n) (sym (c .before .before .before .top-is .ensures) ∙ c .before .before .if1 .taken), λ t. lands t (c .go .result) (c .go .ensures .2) tt)
-
-home-requires : tie.Need-home-requires
-home-requires c κs = search needs
-
-site-of-requires : tie.Need-site-of-requires
-site-of-requires c κs = search needs
-
-astray-requires : tie.Need-astray-requires
-astray-requires c κs = search needs
 
 returns-2 : tie.Need-returns-2
 unfolding site
@@ -57,11 +39,11 @@ pub back-to-spec : {M : Type 1} → statement M
 back-to-spec =
     tie.close
     (tie.spec
-    top-is-requires
-    popped-requires
-    go-requires
+    (λ c κs. search needs)
+    (λ c κs. search needs)
+    (λ c κs. search needs)
     returns
-    home-requires
-    site-of-requires
-    astray-requires
+    (λ c κs. search needs)
+    (λ c κs. search needs)
+    (λ c κs. search needs)
     returns-2)

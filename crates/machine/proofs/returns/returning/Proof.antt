@@ -12,30 +12,6 @@ use Rattle.machine.proofs.returns.returning.Lts as lts
 use Rattle.machine.proofs.returns.back_to.Reads as back-to-reads
 use Rattle.machine.proofs.makers.stop.Reads as stop-reads
 
-enum-told : tie.Need-enum-told
-enum-told c = search needs
-
-stop-requires : tie.Need-stop-requires
-stop-requires c κs = search needs
-
-enum-known-dir : tie.Need-enum-known-dir
-enum-known-dir c = search needs
-
-stop-requires-2 : tie.Need-stop-requires-2
-stop-requires-2 c κs = search needs
-
-enum-known-dir-2 : tie.Need-enum-known-dir-2
-enum-known-dir-2 c = search needs
-
-stop-requires-3 : tie.Need-stop-requires-3
-stop-requires-3 c κs = search needs
-
-enum-known-dir-3 : tie.Need-enum-known-dir-3
-enum-known-dir-3 c = search needs
-
-back-to-requires : tie.Need-back-to-requires
-back-to-requires c κs = search needs
-
 returns : tie.Need-returns
 returns c =
     let a = c .before .before .before .before .args in
@@ -64,14 +40,14 @@ pub returning-spec : {M : Type 1} → statement M
 returning-spec =
     tie.close
     (tie.spec
-    enum-told
-    stop-requires
-    enum-known-dir
-    stop-requires-2
-    enum-known-dir-2
-    stop-requires-3
-    enum-known-dir-3
-    back-to-requires
+    (λ c. search needs)
+    (λ c κs. search needs)
+    (λ c. search needs)
+    (λ c κs. search needs)
+    (λ c. search needs)
+    (λ c κs. search needs)
+    (λ c. search needs)
+    (λ c κs. search needs)
     returns
     returns-2
     returns-3

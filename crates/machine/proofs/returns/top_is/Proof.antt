@@ -9,29 +9,11 @@ use Rattle.machine.proofs.returns.top_is.Tie as tie
 use Rattle.machine.proofs.returns.top_is.Reads as reads
 use Rattle.machine.proofs.returns.top_is.Lts as lts
 
-returns : tie.Need-returns
-returns c = search needs
-
 returns-2 : tie.Need-returns-2
 returns-2 c =
     let a = c .before .before .args in
     let g : length (a .s .stack) ≡ 32 = sym (length-map (a .s .stack) (λ (v : ℕ). v)) ∙ c .before .before .good .0 .1 .1 .0 .1 .0 .1 in
     top-out (a .s .stack) (a .s .depth) (a .q) (omega (arith, g)) (c .if2 .taken)
-
-sub-k : tie.Need-sub-k
-sub-k c = search needs
-
-cast-k : tie.Need-cast-k
-cast-k c = search needs
-
-mul-result : tie.Need-mul-result
-mul-result c = search needs
-
-array-read-result : tie.Need-array-read-result
-array-read-result c = search needs
-
-cast-result : tie.Need-cast-result
-cast-result c = search needs
 
 returns-3 : tie.Need-returns-3
 returns-3 c =
@@ -41,4 +23,4 @@ returns-3 c =
 pub top-is-spec : {M : Type 1} → statement M
 top-is-spec =
     tie.close
-    (tie.spec returns returns-2 sub-k cast-k mul-result array-read-result cast-result returns-3)
+    (tie.spec (λ c. search needs) returns-2 (λ c. search needs) (λ c. search needs) (λ c. search needs) (λ c. search needs) (λ c. search needs) returns-3)

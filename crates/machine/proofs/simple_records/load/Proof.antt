@@ -19,33 +19,12 @@ use Rattle.machine.proofs.makers.at_place.Reads as at-place-reads
 use Rattle.machine.proofs.makers.go.Reads as go-reads
 use Rattle.machine.proofs.makers.stop.Reads as stop-reads
 
-get-requires : tie.Need-get-requires
-get-requires c κs = search needs
-
-access-to-requires : tie.Need-access-to-requires
-access-to-requires c κs = search needs
-
-enum-known-a : tie.Need-enum-known-a
-enum-known-a c = search needs
-
-stop-requires : tie.Need-stop-requires
-stop-requires c κs = search needs
-
-enum-known-a-2 : tie.Need-enum-known-a-2
-enum-known-a-2 c = search needs
-
 word-at-requires : tie.Need-word-at-requires
 word-at-requires c κs =
     let a = c .before .before .before .before .before .before .before .before .args in
     let T = tableWith (a .z) (a .t .now) in
     let A = sym (c .before .before .before .access-to .ensures ∙ ap (λ (v : ℕ). access T (a .array) v (a .s .mis) (a .dir)) (c .before .before .before .before .get .ensures)) ∙ c .before .a2 .given .1 in
-    omega (arith, touched T (a .array) _ (a .s .mis) (a .dir) A, small-words (a .z) (a .t .now) (c .before .a2 .given .0 .0) (λ i. omega (arith, c .before .before .before .before .before .before .before .shared-slice-known .given i)))
-
-at-place-requires : tie.Need-at-place-requires
-at-place-requires c κs = search needs
-
-go-requires : tie.Need-go-requires
-go-requires c κs = search needs
+    omega (arith, touched T (a .array) _ (a .s .mis) (a .dir) A .1, small-words (a .z) (a .t .now) (c .before .a2 .given .0 .0) (λ i. omega (arith, c .before .before .before .before .before .before .before .shared-slice-known .given i)))
 
 returns : tie.Need-returns
 returns c =
@@ -67,13 +46,13 @@ pub load-spec : {M : Type 1} → statement M
 load-spec =
     tie.close
     (tie.spec
-    get-requires
-    access-to-requires
-    enum-known-a
-    stop-requires
-    enum-known-a-2
+    (λ c κs. search needs)
+    (λ c κs. search needs)
+    (λ c. search needs)
+    (λ c κs. search needs)
+    (λ c. search needs)
     word-at-requires
-    at-place-requires
-    go-requires
+    (λ c κs. search needs)
+    (λ c κs. search needs)
     returns
     returns-2)

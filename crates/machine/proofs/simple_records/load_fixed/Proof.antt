@@ -12,12 +12,6 @@ use Rattle.machine.proofs.simple_records.load_fixed.Lts as lts
 use Rattle.machine.proofs.memory.word_at.Reads as word-at-reads
 use Rattle.machine.proofs.makers.plain_to.Reads as plain-to-reads
 
-word-at-requires : tie.Need-word-at-requires
-word-at-requires c κs = search needs
-
-plain-to-requires : tie.Need-plain-to-requires
-plain-to-requires c κs = search needs
-
 returns : tie.Need-returns
 returns c =
     let a = c .before .before .before .before .args in
@@ -25,4 +19,4 @@ returns c =
     (λ m. c .plain-to .ensures .0 T (dataOf (a .s) m (a .mem .now)) ∙ ap (λ (v : ℕ). plainly T (a .dir) (a .s) (a .next) (Register (a .dest) v) (a .s .masked) (Address (a .array) (a .index)) (dataOf (a .s) m (a .mem .now))) (c .before .word-at .ensures), λ t. c .plain-to .ensures .1 t tt)
 
 pub load-fixed-spec : {M : Type 1} → statement M
-load-fixed-spec = tie.close (tie.spec word-at-requires plain-to-requires returns)
+load-fixed-spec = tie.close (tie.spec (λ c κs. search needs) (λ c κs. search needs) returns)

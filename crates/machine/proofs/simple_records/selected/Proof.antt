@@ -10,25 +10,10 @@ use Rattle.machine.proofs.memory.get.Reads as get-reads
 use Rattle.machine.proofs.values.choose.Reads as choose-reads
 use Rattle.machine.proofs.values.is_true.Reads as is-true-reads
 
-get-requires : tie.Need-get-requires
-get-requires c κs = search needs
-
-is-true-requires : tie.Need-is-true-requires
-is-true-requires c κs = search needs
-
-get-requires-2 : tie.Need-get-requires-2
-get-requires-2 c κs = search needs
-
-get-requires-3 : tie.Need-get-requires-3
-get-requires-3 c κs = search needs
-
-choose-requires : tie.Need-choose-requires
-choose-requires c κs = search needs
-
 returns : tie.Need-returns
 returns c = select-value (c .choose .ensures) (c .before .before .before .is-true .ensures ∙ ap truth (c .before .before .before .before .get .ensures)) (c .before .before .get2 .ensures) (c .before .get3 .ensures)
 
 pub selected-spec : {M : Type 1} → statement M
 selected-spec =
     tie.close
-    (tie.spec get-requires is-true-requires get-requires-2 get-requires-3 choose-requires returns)
+    (tie.spec (λ c κs. search needs) (λ c κs. search needs) (λ c κs. search needs) (λ c κs. search needs) (λ c κs. search needs) returns)

@@ -8,14 +8,8 @@ use Rattle.machine.proofs.simple_records.shielded.Lts as lts
 use Rattle.machine.proofs.memory.get.Reads as get-reads
 use Rattle.machine.proofs.values.choose.Reads as choose-reads
 
-get-requires : tie.Need-get-requires
-get-requires c κs = search needs
-
-choose-requires : tie.Need-choose-requires
-choose-requires c κs = search needs
-
 returns : tie.Need-returns
 returns c = select-value {b = c .before .before .before .args .s .masked} {l = 4294967295} (c .choose .ensures) refl refl (c .before .get .ensures)
 
 pub shielded-spec : {M : Type 1} → statement M
-shielded-spec = tie.close (tie.spec get-requires choose-requires returns)
+shielded-spec = tie.close (tie.spec (λ c κs. search needs) (λ c κs. search needs) returns)

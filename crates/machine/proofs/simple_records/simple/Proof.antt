@@ -28,84 +28,6 @@ use Rattle.machine.proofs.simple_records.store_fixed.Reads as store-fix
 use Rattle.machine.proofs.simple_records.updated.Reads as updated-reads
 use Rattle.machine.proofs.simple_records.write.Reads as write-reads
 
-enum-known-r : tie.Need-enum-known-r
-enum-known-r c = search needs
-
-write-requires : tie.Need-write-requires
-write-requires c κs = search needs
-
-enum-known-r-2 : tie.Need-enum-known-r-2
-enum-known-r-2 c = search needs
-
-operated-requires : tie.Need-operated-requires
-operated-requires c κs = search needs
-
-write-requires-2 : tie.Need-write-requires-2
-write-requires-2 c κs = search needs
-
-enum-known-r-3 : tie.Need-enum-known-r-3
-enum-known-r-3 c = search needs
-
-selected-requires : tie.Need-selected-requires
-selected-requires c κs = search needs
-
-write-requires-3 : tie.Need-write-requires-3
-write-requires-3 c κs = search needs
-
-enum-known-r-4 : tie.Need-enum-known-r-4
-enum-known-r-4 c = search needs
-
-load-requires : tie.Need-load-requires
-load-requires c κs = search needs
-
-enum-known-r-5 : tie.Need-enum-known-r-5
-enum-known-r-5 c = search needs
-
-store-requires : tie.Need-store-requires
-store-requires c κs = search needs
-
-enum-told : tie.Need-enum-told
-enum-told c = search needs
-
-init-requires : tie.Need-init-requires
-init-requires c κs = search needs
-
-enum-known-r-6 : tie.Need-enum-known-r-6
-enum-known-r-6 c = search needs
-
-cast-get : tie.Need-cast-get
-cast-get c = search needs
-
-get-requires : tie.Need-get-requires
-get-requires c κs = search needs
-
-condition-requires : tie.Need-condition-requires
-condition-requires c κs = search needs
-
-updated-requires : tie.Need-updated-requires
-updated-requires c κs = search needs
-
-enum-known-r-7 : tie.Need-enum-known-r-7
-enum-known-r-7 c = search needs
-
-shielded-requires : tie.Need-shielded-requires
-shielded-requires c κs = search needs
-
-write-requires-4 : tie.Need-write-requires-4
-write-requires-4 c κs = search needs
-
-enum-known-r-8 : tie.Need-enum-known-r-8
-enum-known-r-8 c = search needs
-
-load-fixed-requires : tie.Need-load-fixed-requires
-load-fixed-requires c κs = search needs
-
-enum-known-r-9 : tie.Need-enum-known-r-9
-enum-known-r-9 c = search needs
-
-store-fixed-requires : tie.Need-store-fixed-requires
-store-fixed-requires c κs = search needs
-
 returns : tie.Need-returns
 returns c =
     let a = c .before .before .before .before .before .before .before .args in
@@ -195,32 +117,32 @@ pub simple-spec : {M : Type 1} → statement M
 simple-spec =
     tie.close
     (tie.spec
-    enum-known-r
-    write-requires
-    enum-known-r-2
-    operated-requires
-    write-requires-2
-    enum-known-r-3
-    selected-requires
-    write-requires-3
-    enum-known-r-4
-    load-requires
-    enum-known-r-5
-    store-requires
-    enum-told
-    init-requires
-    enum-known-r-6
-    cast-get
-    get-requires
-    condition-requires
-    updated-requires
-    enum-known-r-7
-    shielded-requires
-    write-requires-4
-    enum-known-r-8
-    load-fixed-requires
-    enum-known-r-9
-    store-fixed-requires
+    (λ c. search needs)
+    (λ c κs. search needs)
+    (λ c. search needs)
+    (λ c κs. search needs)
+    (λ c κs. search needs)
+    (λ c. search needs)
+    (λ c κs. search needs)
+    (λ c κs. search needs)
+    (λ c. search needs)
+    (λ c κs. search needs)
+    (λ c. search needs)
+    (λ c κs. search needs)
+    (λ c. search needs)
+    (λ c κs. search needs)
+    (λ c. search needs)
+    (λ c. search needs)
+    (λ c κs. search needs)
+    (λ c κs. search needs)
+    (λ c κs. search needs)
+    (λ c. search needs)
+    (λ c κs. search needs)
+    (λ c κs. search needs)
+    (λ c. search needs)
+    (λ c κs. search needs)
+    (λ c. search needs)
+    (λ c κs. search needs)
     returns
     returns-2
     returns-3

@@ -17,30 +17,6 @@ use Rattle.machine.proofs.makers.at_place.Reads as at-place-reads
 use Rattle.machine.proofs.makers.go.Reads as go-reads
 use Rattle.machine.proofs.makers.stop.Reads as stop-reads
 
-get-requires : tie.Need-get-requires
-get-requires c κs = search needs
-
-access-to-requires : tie.Need-access-to-requires
-access-to-requires c κs = search needs
-
-enum-known-a : tie.Need-enum-known-a
-enum-known-a c = search needs
-
-stop-requires : tie.Need-stop-requires
-stop-requires c κs = search needs
-
-enum-known-a-2 : tie.Need-enum-known-a-2
-enum-known-a-2 c = search needs
-
-get-requires-2 : tie.Need-get-requires-2
-get-requires-2 c κs = search needs
-
-at-place-requires : tie.Need-at-place-requires
-at-place-requires c κs = search needs
-
-go-requires : tie.Need-go-requires
-go-requires c κs = search needs
-
 returns : tie.Need-returns
 returns c =
     let a = c .before .before .before .before .before .before .before .before .args in
@@ -54,19 +30,19 @@ returns-2 c =
     let T = tableWith (a .z) (a .t .now) in
     let A = sym (c .before .before .before .before .before .before .access-to .ensures ∙ ap (λ (v : ℕ). access T (a .array) v (a .s .mis) (a .dir)) (c .before .before .before .before .before .before .before .get .ensures)) ∙ c .before .before .before .before .a2 .given .1 in
     let g = c .go .ensures in
-    (λ m. goes T (a .s) (c .go .result) (dataOf (a .s) (a .regs .now) m) (g .0, g .1, g .2 ∙ ap (Word (c .before .before .before .before .a2 .given .0 .0) (c .before .before .before .before .a2 .given .0 .1 .0)) (c .before .before .get2 .ensures), g .3 ∙ ap (Address (a .array)) (c .before .before .before .before .before .before .before .get .ensures)) (c .before .at-place .ensures) ∙ store-word T (dataOf (a .s) (a .regs .now) m) (to (ctlOf (a .s)) (a .next)) (a .array) (a .index) (a .source) _ _ (a .s .mis) (a .dir) A, lands T (c .go .result) (g .2) (touched T (a .array) _ (a .s .mis) (a .dir) A))
+    (λ m. goes T (a .s) (c .go .result) (dataOf (a .s) (a .regs .now) m) (g .0, g .1, g .2 ∙ ap (Word (c .before .before .before .before .a2 .given .0 .0) (c .before .before .before .before .a2 .given .0 .1 .0)) (c .before .before .get2 .ensures), g .3 ∙ ap (Address (a .array)) (c .before .before .before .before .before .before .before .get .ensures)) (c .before .at-place .ensures) ∙ store-word T (dataOf (a .s) (a .regs .now) m) (to (ctlOf (a .s)) (a .next)) (a .array) (a .index) (a .source) _ _ (a .s .mis) (a .dir) A, lands T (c .go .result) (g .2) (touched T (a .array) _ (a .s .mis) (a .dir) A .1))
 
 pub store-spec : {M : Type 1} → statement M
 store-spec =
     tie.close
     (tie.spec
-    get-requires
-    access-to-requires
-    enum-known-a
-    stop-requires
-    enum-known-a-2
-    get-requires-2
-    at-place-requires
-    go-requires
+    (λ c κs. search needs)
+    (λ c κs. search needs)
+    (λ c. search needs)
+    (λ c κs. search needs)
+    (λ c. search needs)
+    (λ c κs. search needs)
+    (λ c κs. search needs)
+    (λ c κs. search needs)
     returns
     returns-2)

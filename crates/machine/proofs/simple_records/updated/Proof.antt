@@ -11,16 +11,10 @@ use Rattle.machine.proofs.simple_records.updated.Reads as reads
 use Rattle.machine.proofs.simple_records.updated.Lts as lts
 use Rattle.machine.proofs.makers.plain_to.Reads as plain-to-reads
 
-plain-to-requires : tie.Need-plain-to-requires
-plain-to-requires c κs = search needs
-
 returns : tie.Need-returns
 returns c =
     let a = c .before .before .args in
     (λ t x. c .plain-to .ensures .0 t x ∙ ap (λ (b : Bool). plainly t (a .dir) (a .s) (a .next) None b Nothing x) (sym (picked (a .held) (a .s .masked) true (c .before .if1 .taken))), λ t. c .plain-to .ensures .1 t tt)
-
-plain-to-requires-2 : tie.Need-plain-to-requires-2
-plain-to-requires-2 c κs = search needs
 
 returns-2 : tie.Need-returns-2
 returns-2 c =
@@ -28,4 +22,4 @@ returns-2 c =
     (λ t x. c .plain-to2 .ensures .0 t x ∙ ap (λ (b : Bool). plainly t (a .dir) (a .s) (a .next) None b Nothing x) (sym (passed (a .held) (a .s .masked) true (c .before .if1 .left))), λ t. c .plain-to2 .ensures .1 t tt)
 
 pub updated-spec : {M : Type 1} → statement M
-updated-spec = tie.close (tie.spec plain-to-requires returns plain-to-requires-2 returns-2)
+updated-spec = tie.close (tie.spec (λ c κs. search needs) returns (λ c κs. search needs) returns-2)

@@ -14,21 +14,6 @@ use Rattle.machine.proofs.states.moved.Lts as lts
 use Rattle.machine.proofs.states.at_depth.Reads as at-depth-reads
 use Rattle.machine.proofs.states.one_less.Reads as one-less-reads
 
-enum-told : tie.Need-enum-told
-enum-told c = search needs
-
-at-depth-requires : tie.Need-at-depth-requires
-at-depth-requires c κs = search needs
-
-enum-known-k : tie.Need-enum-known-k
-enum-known-k c = search needs
-
-cast-i : tie.Need-cast-i
-cast-i c = search needs
-
-mul-stack : tie.Need-mul-stack
-mul-stack c = search needs
-
 array-write-stack : tie.Need-array-write-stack
 array-write-stack c =
     let room = c .before .before .before .before .pre _ (c .before .k .given .1) in
@@ -38,24 +23,6 @@ add-at-depth : tie.Need-add-at-depth
 add-at-depth c =
     let room = c .before .before .before .before .pre _ (c .before .k .given .1) in
     search needs
-
-at-depth-requires-2 : tie.Need-at-depth-requires-2
-at-depth-requires-2 c κs = search needs
-
-enum-told-2 : tie.Need-enum-told-2
-enum-told-2 c = search needs
-
-one-less-requires : tie.Need-one-less-requires
-one-less-requires c κs = search needs
-
-at-depth-requires-3 : tie.Need-at-depth-requires-3
-at-depth-requires-3 c κs = search needs
-
-enum-told-3 : tie.Need-enum-told-3
-enum-told-3 c = search needs
-
-at-depth-requires-4 : tie.Need-at-depth-requires-4
-at-depth-requires-4 c κs = search needs
 
 returns : tie.Need-returns
 returns c =
@@ -84,19 +51,19 @@ pub moved-spec : {M : Type 1} → statement M
 moved-spec =
     tie.close
     (tie.spec
-    enum-told
-    at-depth-requires
-    enum-known-k
-    cast-i
-    mul-stack
+    (λ c. search needs)
+    (λ c κs. search needs)
+    (λ c. search needs)
+    (λ c. search needs)
+    (λ c. search needs)
     array-write-stack
     add-at-depth
-    at-depth-requires-2
-    enum-told-2
-    one-less-requires
-    at-depth-requires-3
-    enum-told-3
-    at-depth-requires-4
+    (λ c κs. search needs)
+    (λ c. search needs)
+    (λ c κs. search needs)
+    (λ c κs. search needs)
+    (λ c. search needs)
+    (λ c κs. search needs)
     returns
     returns-2
     returns-3

@@ -7,14 +7,8 @@ use Rattle.machine.proofs.states.start.Lts as lts
 use Rattle.layout.proofs.start_of.Reads as start-of-reads
 use Rattle.machine.proofs.states.one_less.Reads as one-less-reads
 
-one-less-requires : tie.Need-one-less-requires
-one-less-requires c κs = search needs
-
-start-of-requires : tie.Need-start-of-requires
-start-of-requires c κs = search needs
-
 returns : tie.Need-returns
 returns c = (rw (c .start-of .ensures .0, c .before .one-less .ensures), refl)
 
 pub start-spec : {M : Type 1} → statement M
-start-spec = tie.close (tie.spec one-less-requires start-of-requires returns)
+start-spec = tie.close (tie.spec (λ c κs. search needs) (λ c κs. search needs) returns)

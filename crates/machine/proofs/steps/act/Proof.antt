@@ -15,48 +15,15 @@ use Rattle.machine.proofs.plans.plan.Reads as plan-reads
 use Rattle.machine.proofs.steps.halted.Reads as halted-reads
 use Rattle.machine.proofs.states.moved.Reads as moved-reads
 
-plan-requires : tie.Need-plan-requires
-plan-requires c κs = search needs
-
-halted-requires : tie.Need-halted-requires
-halted-requires c κs = search needs
-
-same-length : tie.Need-same-length
-same-length c = search needs
-
-same-length-2 : tie.Need-same-length-2
-same-length-2 c = search needs
-
 returns : tie.Need-returns
 returns c =
     let a = c .before .before .before .before .before .before .before .before .before .before .args in
     act-stops (a .z) (a .t .now) (a .s) (a .dir) (a .seen) (lent (a .regs .now) (a .mem .now) (a .obs .now)) (c .before .before .before .plan .result) (c .halted .result) (c .before .before .before .plan .ensures .0) (c .before .if1 .taken) (c .halted .ensures .0) (c .halted .ensures .1) (c .halted .ensures .2)
 
-size-of-requires : tie.Need-size-of-requires
-size-of-requires c κs = search needs
-
-sub-if2 : tie.Need-sub-if2
-sub-if2 c = search needs
-
-halted-requires-2 : tie.Need-halted-requires-2
-halted-requires-2 c κs = search needs
-
-same-length-3 : tie.Need-same-length-3
-same-length-3 c = search needs
-
-same-length-4 : tie.Need-same-length-4
-same-length-4 c = search needs
-
 returns-2 : tie.Need-returns-2
 returns-2 c =
     let a = c .before .before .before .before .before .before .before .before .before .before .before .before .args in
     act-full (a .z) (a .t .now) (a .s) (a .dir) (a .seen) (lent (a .regs .now) (a .mem .now) (a .obs .now)) (c .before .before .before .before .before .plan .result) (c .halted2 .result) (c .before .before .before .before .before .plan .ensures .0) (c .before .before .before .if1 .left) (omega (arith, c .before .if2 .taken, c .before .before .size-of .ensures .0)) (c .halted2 .ensures .0) (c .halted2 .ensures .1) (c .halted2 .ensures .2)
-
-put-observation-requires : tie.Need-put-observation-requires
-put-observation-requires c κs = search needs
-
-carry-out-requires : tie.Need-carry-out-requires
-carry-out-requires c κs = search needs
 
 moved-requires : tie.Need-moved-requires
 moved-requires c κs =
@@ -68,15 +35,6 @@ add-end : tie.Need-add-end
 add-end c =
     omega (arith, c .before .before .before .before .before .before .before .before .before .before .before .before .before .if2 .left, c .before .before .before .before .before .before .before .before .before .before .before .before .before .before .size-of .ensures .0, c .before .before .before .before .before .before .before .before .before .before .before .before .before .before .size-of .ensures .1, c .before .before .before .before .before .before .before .before .before .before .before .before .before .before .before .before .before .before .before .before .before .before .before .before .pre .1, c .before .before .before .before .before .before .before .before .before .before .before .before .before .before .before .before .before .before .before .before .before .before .before .before .good .1 .1 .1 .1 .1 .1 .1 .0 .0)
 
-same-length-5 : tie.Need-same-length-5
-same-length-5 c = search needs
-
-same-length-6 : tie.Need-same-length-6
-same-length-6 c = search needs
-
-same-length-7 : tie.Need-same-length-7
-same-length-7 c = search needs
-
 returns-3 : tie.Need-returns-3
 returns-3 c =
     let a = c .before .before .before .before .before .before .before .before .before .before .before .before .before .before .before .before .before .before .before .before .before .before .before .before .args in
@@ -87,22 +45,22 @@ pub act-spec : {M : Type 1} → statement M
 act-spec =
     tie.close
     (tie.spec
-    plan-requires
-    halted-requires
-    same-length
-    same-length-2
+    (λ c κs. search needs)
+    (λ c κs. search needs)
+    (λ c. search needs)
+    (λ c. search needs)
     returns
-    size-of-requires
-    sub-if2
-    halted-requires-2
-    same-length-3
-    same-length-4
+    (λ c κs. search needs)
+    (λ c. search needs)
+    (λ c κs. search needs)
+    (λ c. search needs)
+    (λ c. search needs)
     returns-2
-    put-observation-requires
-    carry-out-requires
+    (λ c κs. search needs)
+    (λ c κs. search needs)
     moved-requires
     add-end
-    same-length-5
-    same-length-6
-    same-length-7
+    (λ c. search needs)
+    (λ c. search needs)
+    (λ c. search needs)
     returns-3)

@@ -11,21 +11,12 @@ use Rattle.machine.proofs.steps.lent_step.Reads as lent-step-reads
 use Rattle.machine.proofs.steps.ended.Reads as ended-reads
 use Rattle.machine.proofs.steps.last_place.Reads as last-place-reads
 
-last-place-requires : tie.Need-last-place-requires
-last-place-requires c κs = search needs
-
-ended-requires : tie.Need-ended-requires
-ended-requires c κs = search needs
-
 returns : tie.Need-returns
 returns c =
     let a = c .before .before .before .before .before .before .before .before .args in
     let ready = c .before .before .before .before .before .before .before .before .pre .0 in
     let last = c .before .before .last-place .ensures in
     turn-over (a .z) (a .t .now) (a .s) (a .dirs .now) (a .at) (a .seen) (lent (a .regs .now) (a .mem .now) (a .obs .now)) ready _ (c .before .if1 .taken ∙ last) (c .ended .ensures .0) (c .ended .ensures .1)
-
-ended-requires-2 : tie.Need-ended-requires-2
-ended-requires-2 c κs = search needs
 
 returns-2 : tie.Need-returns-2
 returns-2 c =
@@ -34,36 +25,12 @@ returns-2 c =
     let last = c .before .before .before .last-place .ensures in
     turn-used (a .z) (a .t .now) (a .s) (a .dirs .now) (a .at) (a .seen) (lent (a .regs .now) (a .mem .now) (a .obs .now)) ready _ (λ q. c .before .before .if1 .left (q ∙ sym last)) (c .before .if2 .taken) (c .ended2 .ensures .0) (c .ended2 .ensures .1)
 
-directive-at-requires : tie.Need-directive-at-requires
-directive-at-requires c κs = search needs
-
-enum-told : tie.Need-enum-told
-enum-told c = search needs
-
-ended-requires-3 : tie.Need-ended-requires-3
-ended-requires-3 c κs = search needs
-
-enum-known-told : tie.Need-enum-known-told
-enum-known-told c = search needs
-
-lent-step-requires : tie.Need-lent-step-requires
-lent-step-requires c κs = search needs
-
 returns-3 : tie.Need-returns-3
 returns-3 c =
     let a = c .before .before .before .before .before .before .before .before .before .before .before .before .args in
     let ready = c .before .before .before .before .before .before .before .before .before .before .before .before .pre .0 in
     let last = c .before .before .before .before .before .before .last-place .ensures in
     turn-bad (a .z) (a .t .now) (a .s) (a .dirs .now) (a .at) (a .seen) (lent (a .regs .now) (a .mem .now) (a .obs .now)) ready _ (λ q. c .before .before .before .before .before .if1 .left (q ∙ sym last)) (c .before .before .before .before .if2 .left) (sym (c .before .before .before .directive-at .ensures) ∙ c .before .enum-told .given .1) (c .ended3 .ensures .0) (c .ended3 .ensures .1)
-
-same-length : tie.Need-same-length
-same-length c = search needs
-
-same-length-2 : tie.Need-same-length-2
-same-length-2 c = search needs
-
-same-length-3 : tie.Need-same-length-3
-same-length-3 c = search needs
 
 returns-4 : tie.Need-returns-4
 returns-4 c =
@@ -76,18 +43,18 @@ pub one-turn-spec : {M : Type 1} → statement M
 one-turn-spec =
     tie.close
     (tie.spec
-    last-place-requires
-    ended-requires
+    (λ c κs. search needs)
+    (λ c κs. search needs)
     returns
-    ended-requires-2
+    (λ c κs. search needs)
     returns-2
-    directive-at-requires
-    enum-told
-    ended-requires-3
-    enum-known-told
-    lent-step-requires
+    (λ c κs. search needs)
+    (λ c. search needs)
+    (λ c κs. search needs)
+    (λ c. search needs)
+    (λ c κs. search needs)
     returns-3
-    same-length
-    same-length-2
-    same-length-3
+    (λ c. search needs)
+    (λ c. search needs)
+    (λ c. search needs)
     returns-4)

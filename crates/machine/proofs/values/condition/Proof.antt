@@ -9,17 +9,11 @@ use Rattle.machine.proofs.values.condition.Reads as reads
 use Rattle.machine.proofs.values.condition.Lts as lts
 use Rattle.machine.proofs.values.is_true.Reads as is-true-reads
 
-is-true-requires : tie.Need-is-true-requires
-is-true-requires c κs = search needs
-
 returns : tie.Need-returns
 returns c = c .is-true .ensures ∙ holds-yes (truth (c .before .before .args .v)) (c .before .before .args .sense) (c .before .if1 .taken)
-
-is-true-requires-2 : tie.Need-is-true-requires-2
-is-true-requires-2 c κs = search needs
 
 returns-2 : tie.Need-returns-2
 returns-2 c = ap not (c .is-true2 .ensures) ∙ holds-no (truth (c .before .before .args .v)) (c .before .before .args .sense) (c .before .if1 .left)
 
 pub condition-spec : {M : Type 1} → statement M
-condition-spec = tie.close (tie.spec is-true-requires returns is-true-requires-2 returns-2)
+condition-spec = tie.close (tie.spec (λ c κs. search needs) returns (λ c κs. search needs) returns-2)

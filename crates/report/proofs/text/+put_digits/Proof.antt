@@ -24,63 +24,31 @@ abbrev put-digits-below : ℕ → In 1 put-digits-kinds.ps
 put-digits-below t =
     and 1 put-digits-kinds.ps (falls 1 put-digits-kinds.ps _<_ μ-put-digits t) put-digits.Pre
 
-put-digits-returns : (t : ℕ) → put-digits-lts.Need-returns (
-  put-reads.Asked,
-  put-reads.Learnt,
-  put-digits-below t,
-  put-digits.Post,
-) (put-digits-at t) put-digits.Post
+abbrev put-digits-claims : ℕ → put-digits-lts.Claims
+put-digits-claims t = (put-reads.Asked, put-reads.Learnt, put-digits-below t, put-digits.Post)
+
+put-digits-returns : (t : ℕ) → put-digits-lts.Need-returns (put-digits-claims t) (put-digits-at t) put-digits.Post
 put-digits-returns t c =
     let a = c .before .before .args in
     let z = dig-none (a .k) (a .n) (c .if1 .taken) in
     rw z (omega arith, omega arith, refl)
 
-put-digits-cast-put : (t : ℕ) → put-digits-lts.Need-cast-put (
-  put-reads.Asked,
-  put-reads.Learnt,
-  put-digits-below t,
-  put-digits.Post,
-) (put-digits-at t) put-digits.Post
+put-digits-cast-put : (t : ℕ) → put-digits-lts.Need-cast-put (put-digits-claims t) (put-digits-at t) put-digits.Post
 put-digits-cast-put t c = search needs
 
-put-digits-add-put : (t : ℕ) → put-digits-lts.Need-add-put (
-  put-reads.Asked,
-  put-reads.Learnt,
-  put-digits-below t,
-  put-digits.Post,
-) (put-digits-at t) put-digits.Post
+put-digits-add-put : (t : ℕ) → put-digits-lts.Need-add-put (put-digits-claims t) (put-digits-at t) put-digits.Post
 put-digits-add-put t c = search needs
 
-put-digits-put-requires : (t : ℕ) → put-digits-lts.Need-put-requires (
-  put-reads.Asked,
-  put-reads.Learnt,
-  put-digits-below t,
-  put-digits.Post,
-) (put-digits-at t) put-digits.Post
+put-digits-put-requires : (t : ℕ) → put-digits-lts.Need-put-requires (put-digits-claims t) (put-digits-at t) put-digits.Post
 put-digits-put-requires t c κs = search needs
 
-put-digits-add-result : (t : ℕ) → put-digits-lts.Need-add-result (
-  put-reads.Asked,
-  put-reads.Learnt,
-  put-digits-below t,
-  put-digits.Post,
-) (put-digits-at t) put-digits.Post
+put-digits-add-result : (t : ℕ) → put-digits-lts.Need-add-result (put-digits-claims t) (put-digits-at t) put-digits.Post
 put-digits-add-result t c = search needs
 
-put-digits-same-length : (t : ℕ) → put-digits-lts.Need-same-length (
-  put-reads.Asked,
-  put-reads.Learnt,
-  put-digits-below t,
-  put-digits.Post,
-) (put-digits-at t) put-digits.Post
+put-digits-same-length : (t : ℕ) → put-digits-lts.Need-same-length (put-digits-claims t) (put-digits-at t) put-digits.Post
 put-digits-same-length t c = search needs
 
-put-digits-returns-2 : (t : ℕ) → put-digits-lts.Need-returns-2 (
-  put-reads.Asked,
-  put-reads.Learnt,
-  put-digits-below t,
-  put-digits.Post,
-) (put-digits-at t) put-digits.Post
+put-digits-returns-2 : (t : ℕ) → put-digits-lts.Need-returns-2 (put-digits-claims t) (put-digits-at t) put-digits.Post
 put-digits-returns-2 t c =
     let a = c .before .before .before .before .before .before .before .args in
     let z = dig-last (a .k) (a .n) (c .before .before .before .before .before .if1 .left) (c .before .before .before .before .if2 .taken) in
@@ -88,68 +56,28 @@ put-digits-returns-2 t c =
     let k = c .before .before .before .before .before .if1 .left in
     rw z (refl, omega arith, c .before .before .put .ensures ∙ rw m)
 
-put-digits-sub-put-digits : (t : ℕ) → put-digits-lts.Need-sub-put-digits (
-  put-reads.Asked,
-  put-reads.Learnt,
-  put-digits-below t,
-  put-digits.Post,
-) (put-digits-at t) put-digits.Post
+put-digits-sub-put-digits : (t : ℕ) → put-digits-lts.Need-sub-put-digits (put-digits-claims t) (put-digits-at t) put-digits.Post
 put-digits-sub-put-digits t c = search needs
 
-put-digits-put-digits-requires : (t : ℕ) → put-digits-lts.Need-put-digits-requires (
-  put-reads.Asked,
-  put-reads.Learnt,
-  put-digits-below t,
-  put-digits.Post,
-) (put-digits-at t) put-digits.Post
+put-digits-put-digits-requires : (t : ℕ) → put-digits-lts.Need-put-digits-requires (put-digits-claims t) (put-digits-at t) put-digits.Post
 put-digits-put-digits-requires t c κs = search needs
 
-put-digits-cast-put-2 : (t : ℕ) → put-digits-lts.Need-cast-put-2 (
-  put-reads.Asked,
-  put-reads.Learnt,
-  put-digits-below t,
-  put-digits.Post,
-) (put-digits-at t) put-digits.Post
+put-digits-cast-put-2 : (t : ℕ) → put-digits-lts.Need-cast-put-2 (put-digits-claims t) (put-digits-at t) put-digits.Post
 put-digits-cast-put-2 t c = search needs
 
-put-digits-add-put-2 : (t : ℕ) → put-digits-lts.Need-add-put-2 (
-  put-reads.Asked,
-  put-reads.Learnt,
-  put-digits-below t,
-  put-digits.Post,
-) (put-digits-at t) put-digits.Post
+put-digits-add-put-2 : (t : ℕ) → put-digits-lts.Need-add-put-2 (put-digits-claims t) (put-digits-at t) put-digits.Post
 put-digits-add-put-2 t c = search needs
 
-put-digits-put-requires-2 : (t : ℕ) → put-digits-lts.Need-put-requires-2 (
-  put-reads.Asked,
-  put-reads.Learnt,
-  put-digits-below t,
-  put-digits.Post,
-) (put-digits-at t) put-digits.Post
+put-digits-put-requires-2 : (t : ℕ) → put-digits-lts.Need-put-requires-2 (put-digits-claims t) (put-digits-at t) put-digits.Post
 put-digits-put-requires-2 t c κs = search needs
 
-put-digits-add-result-2 : (t : ℕ) → put-digits-lts.Need-add-result-2 (
-  put-reads.Asked,
-  put-reads.Learnt,
-  put-digits-below t,
-  put-digits.Post,
-) (put-digits-at t) put-digits.Post
+put-digits-add-result-2 : (t : ℕ) → put-digits-lts.Need-add-result-2 (put-digits-claims t) (put-digits-at t) put-digits.Post
 put-digits-add-result-2 t c = search needs
 
-put-digits-same-length-2 : (t : ℕ) → put-digits-lts.Need-same-length-2 (
-  put-reads.Asked,
-  put-reads.Learnt,
-  put-digits-below t,
-  put-digits.Post,
-) (put-digits-at t) put-digits.Post
+put-digits-same-length-2 : (t : ℕ) → put-digits-lts.Need-same-length-2 (put-digits-claims t) (put-digits-at t) put-digits.Post
 put-digits-same-length-2 t c = search needs
 
-put-digits-returns-3 : (t : ℕ) → put-digits-lts.Need-returns-3 (
-  put-reads.Asked,
-  put-reads.Learnt,
-  put-digits-below t,
-  put-digits.Post,
-) (put-digits-at t) put-digits.Post
+put-digits-returns-3 : (t : ℕ) → put-digits-lts.Need-returns-3 (put-digits-claims t) (put-digits-at t) put-digits.Post
 put-digits-returns-3 t c =
     let a = c .before .before .before .before .before .before .before .before .before .before .before .args in
     let z = dig-more (a .k) (a .n) (c .before .before .before .before .before .before .before .before .before .if1 .left) (c .before .before .before .before .before .before .before .before .if2 .left) in
@@ -157,12 +85,7 @@ put-digits-returns-3 t c =
     rw (z, length-append) (omega (arith, q .0, q .1), omega (arith, q .1, c .before .before .before .before .before .before .before .before .before .if1 .left), c .before .before .put2 .ensures ∙ rw (sets-snoc, q .2, q .0))
 
 pub +put-digits-spec : {M : Type 1} → statement M
-+put-digits-spec = close μ-put-digits λ t. put-digits-lts.spec (
-  put-reads.Asked,
-  put-reads.Learnt,
-  put-digits-below t,
-  put-digits.Post,
-)
++put-digits-spec = close μ-put-digits λ t. put-digits-lts.spec (put-digits-claims t)
     (put-digits-at t)
     put-digits.Post
     (put-digits-returns t)

@@ -18,6 +18,9 @@ number-at t = and 1 number-kinds.ps (is 1 number-kinds.ps μ-number t) number.Pr
 abbrev number-below : ℕ → In 1 number-kinds.ps
 number-below t = and 1 number-kinds.ps (falls 1 number-kinds.ps _<_ μ-number t) number.Pre
 
+abbrev number-claims : ℕ → number-lts.Claims
+number-claims t = (number-below t, number.Post)
+
 number-returns :
     (t : ℕ) → number-lts.Need-returns (number-below t, number.Post) (number-at t) number.Post
 number-returns t c = search needs
@@ -39,10 +42,7 @@ number-number-requires :
     number-lts.Need-number-requires (number-below t, number.Post) (number-at t) number.Post
 number-number-requires t c κs = search needs
 
-number-shared-slice-read-result : (t : ℕ) → number-lts.Need-shared-slice-read-result (
-  number-below t,
-  number.Post,
-) (number-at t) number.Post
+number-shared-slice-read-result : (t : ℕ) → number-lts.Need-shared-slice-read-result (number-claims t) (number-at t) number.Post
 number-shared-slice-read-result t c = search needs
 
 number-cast-result :
