@@ -6,6 +6,7 @@ use lib.Dec.{eqb}
 use borrow.Author.Tests.{eqb-true, eq-eqb}
 use Rattle.model.specs.Tests.{Decides}
 use Rattle.model.specs.Levels.{Env, within, within-is, sameStatus, same-status-is}
+use Rattle.model.specs.Records.{bySingle, by-singles}
 use Rattle.model.specs.Table.{Table}
 use Rattle.model.specs.Rules.{Needs, NeedsOf, typing}
 use Rattle.model.specs.Walk.{Tests, Right}
@@ -13,7 +14,6 @@ use Rattle.model.specs.declared.Status.the-variants.{Updated, Outdated}
 use Rattle.model.specs.declared.Simple.{Simple}
 use Rattle.model.specs.declared.Simple.the-variants.{Const, Op, Select, Load, Store, Init, Update, Protect, LoadFixed, StoreFixed}
 use Rattle.model.specs.declared.Record.{Record}
-use Rattle.model.specs.declared.Record.the-variants.{Do, Call, If, Else, Endif, While, Endwhile, Return}
 
 -- the environment gives a simple record what it asks
 abbrev pub meets : Simple → Env → Bool
@@ -41,16 +41,9 @@ simpleNumber (Protect d s) = 11
 simpleNumber (LoadFixed d a i) = 0
 simpleNumber (StoreFixed a i s) = 0
 
--- 13: not within the callee's in
+-- 13: not within the callee's in. The records of blocks have 10, 12 and 14 by the walk
 abbrev pub numberOf : Record → ℕ
-numberOf (Do s) = simpleNumber s
-numberOf (Call f m) = 13
-numberOf (If r e) = 0
-numberOf (Else n) = 0
-numberOf Endif = 0
-numberOf (While r e L) = 0
-numberOf (Endwhile w) = 0
-numberOf Return = 0
+numberOf = bySingle simpleNumber (λ f m. 13) 0
 
 level-is : (l : ℕ) → Decides (l ≡ 0) (eqb l 0)
 level-is l = (eqb-true l 0, eq-eqb l 0)
@@ -72,24 +65,10 @@ meets-is (StoreFixed a i s) E = asks-nothing
 
 module _ (t : Table) where
   abbrev pub meetsOf : Record → Env → Bool
-  meetsOf (Do s) E = meets s E
-  meetsOf (Call f m) E = within (t .registers) (t .arrays) E (t .enter f)
-  meetsOf (If r e) E = true
-  meetsOf (Else n) E = true
-  meetsOf Endif E = true
-  meetsOf (While r e L) E = true
-  meetsOf (Endwhile w) E = true
-  meetsOf Return E = true
+  meetsOf i E = bySingle (λ s. meets s E) (λ f m. within (t .registers) (t .arrays) E (t .enter f)) true i
 
   meets-of-is : (i : Record) (E : Env) → Decides (NeedsOf t i E) (meetsOf i E)
-  meets-of-is (Do s) E = meets-is s E
-  meets-of-is (Call f m) E = within-is (t .registers) (t .arrays) E (t .enter f)
-  meets-of-is (If r e) E = asks-nothing
-  meets-of-is (Else n) E = asks-nothing
-  meets-of-is Endif E = asks-nothing
-  meets-of-is (While r e L) E = asks-nothing
-  meets-of-is (Endwhile w) E = asks-nothing
-  meets-of-is Return E = asks-nothing
+  meets-of-is i E = by-singles (λ _. Decides) (λ s. meets-is s E) (λ f m. within-is (t .registers) (t .arrays) E (t .enter f)) (λ _. asks-nothing) i
 
   abbrev pub typingTests : Tests (typing t)
   typingTests = record { within = within (t .registers) (t .arrays); public = λ E r. eqb (E .regs r) 0; meets = meetsOf; number = numberOf }

@@ -43,7 +43,7 @@ module _ (t : Table) where
   edge-end : (g : ℕ) → g ≡ t .functions → edge g ≡ t .size
   edge-end g q = same g (t .functions) (λ b. pick b (t .size) (t .start g) ≡ t .size) (λ _. refl) (λ n. absurd (n q))
 
-  -- functions touch, and the code ends with the last of them
+  -- of a table that reads: its functions touch, and the last one ends it
   module _ (blocks : Every t reading) (touch : (g : ℕ) → g < t .functions → edge (suc g) ≡ t .ret g + 1) where
     -- whatever is met from function g on is met in one of the functions
     locate : (n g c : ℕ) → g + n ≡ t .functions → Chain t (edge g) c → c < t .size → InFunction c
@@ -87,7 +87,7 @@ module _ (t : Table) where
         let end : edge (suc g) ≤ t .size = chain-le t (reaches-end (t .functions - suc g) (suc g) (omega arith)) in
         listed t (chain-trans t (to-start g l) w) (omega (arith, end, touch g l))
 
-    -- every function's RETURN is listed; the last one's is the table's last byte
+    -- every function's RETURN is listed, and the last one's is the table's last byte
     pub return-listed : (f : ℕ) → f < t .functions → In (t .ret f) Return (code t)
     return-listed f l = subst (λ (i : Record). In (t .ret f) i (code t)) (blocks f l .returns) (met-listed (t .ret f) (f, l, spans t reading (blocks f l .body), omega arith))
 

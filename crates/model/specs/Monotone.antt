@@ -7,7 +7,7 @@ use mathlib.Core.Bool.{Bool, true, false}
 use lib.Dec.{ltb}
 use Rattle.model.specs.Tests.{pick, same, test}
 use Rattle.model.specs.Levels.{Env, Covers, Within, join, within-refl, within-trans, join-left, join-right, join-least}
-use Rattle.model.specs.Records.{SimpleFits, Fits}
+use Rattle.model.specs.Records.{SimpleFits, Fits, by-singles}
 use Rattle.model.specs.Packing.{envOf}
 use Rattle.model.specs.Table.{Table}
 use Rattle.model.specs.Rules.{kill, guardStatus, settle, written, raised, guarded, spilled, beside, Needs, after, NeedsOf, returned, afterBy, afterOf, typingBy, typing}
@@ -18,7 +18,7 @@ use Rattle.model.specs.declared.Status.the-variants.{Unknown, Updated, O
 use Rattle.model.specs.declared.Simple.{Simple}
 use Rattle.model.specs.declared.Simple.the-variants.{Const, Op, Select, Load, Store, Init, Update, Protect, LoadFixed, StoreFixed}
 use Rattle.model.specs.declared.Record.{Record}
-use Rattle.model.specs.declared.Record.the-variants.{Do, Call, If, Else, Endif, While, Endwhile, Return}
+use Rattle.model.specs.declared.Record.the-variants.{If}
 
 kill-mono : (d : ℕ) (s u : Status) → Covers s u → Covers (kill d s) (kill d u)
 unfolding kill
@@ -98,14 +98,8 @@ module _ (t : Table) where
   In = Within (t .registers) (t .arrays)
 
   pub needs-of-down : (i : Record) (E F : Env) → Fits (t .registers) (t .arrays) i → In E F → NeedsOf t i F → NeedsOf t i E
-  needs-of-down (Do s) E F f w h = needs-down (t .registers) (t .arrays) E F w s f h
-  needs-of-down (Call g m) E F f w h = within-trans (t .registers) (t .arrays) E F (t .enter g) w h
-  needs-of-down (If r e) E F f w h = h
-  needs-of-down (Else n) E F f w h = h
-  needs-of-down Endif E F f w h = h
-  needs-of-down (While r e L) E F f w h = h
-  needs-of-down (Endwhile e) E F f w h = h
-  needs-of-down Return E F f w h = h
+  needs-of-down i E F = by-singles (λ i (N M : Type 0). Fits (t .registers) (t .arrays) i → In E F → N → M)
+      (λ s f w h. needs-down (t .registers) (t .arrays) E F w s f h) (λ g m f w h. within-trans (t .registers) (t .arrays) E F (t .enter g) w h) (λ _ f w h. h) i
 
   fits-at : (p : ℕ) (i : Record) → t .rec p ≡ i → Fits (t .registers) (t .arrays) i
   fits-at p i e = subst (Fits (t .registers) (t .arrays)) e (t .fits p)
@@ -113,14 +107,8 @@ module _ (t : Table) where
   -- beside a rule that leaves no slot lower than `after` does
   module _ (rule : Simple → Env → Env) (higher : (s : Simple) (F : Env) → In (after (t .arrays) s F) (rule s F)) where
     after-of-below : (i : Record) (E F : Env) → Fits (t .registers) (t .arrays) i → In E F → In (afterOf t i E) (afterBy t rule i F)
-    after-of-below (Do s) E F f w = within-trans (t .registers) (t .arrays) _ _ _ (after-mono (t .registers) (t .arrays) E F w s f) (higher s F)
-    after-of-below (Call g m) E F f w = returned-mono (t .registers) (t .arrays) E F w (t .leave g) m
-    after-of-below (If r e) E F f w = w
-    after-of-below (Else n) E F f w = w
-    after-of-below Endif E F f w = w
-    after-of-below (While r e L) E F f w = w
-    after-of-below (Endwhile e) E F f w = w
-    after-of-below Return E F f w = w
+    after-of-below i E F = by-singles (λ i E′ F′. Fits (t .registers) (t .arrays) i → In E F → In E′ F′)
+        (λ s f w. within-trans (t .registers) (t .arrays) _ _ _ (after-mono (t .registers) (t .arrays) E F w s f) (higher s F)) (λ g m f w. returned-mono (t .registers) (t .arrays) E F w (t .leave g) m) (λ _ f w. w) i
 
     -- what that rule types from F, `typing` types from any E within it, and ends within where that rule ends
     pub types-below : {g p q : ℕ} {F F′ : Env} (E : Env) → In E F → Types t (typingBy t rule) g p F q F′ → (E′ : Env) × Types t (typing t) g p E q E′ × In E′ F′

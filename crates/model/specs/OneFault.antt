@@ -7,7 +7,7 @@ use mathlib.Core.Logic.{_⊎_, inl, inr}
 use mathlib.Core.Bool.{Bool, true, false}
 use lib.Dec.{T, ltb, ltb→lt, lt→ltb}
 use Rattle.model.specs.Tests.{Decides, test}
-use Rattle.model.specs.Records.{lengthOf, length-pos, Single, Closes}
+use Rattle.model.specs.Records.{lengthOf, length-pos, Single, Closes, of-single, of-closing}
 use Rattle.model.specs.Table.{Table}
 use Rattle.model.specs.Blocks.{Rules, Types, done, one, branch, loop, TypesFunction}
 use Rattle.model.specs.Rules.{reading, typing}
@@ -56,24 +56,10 @@ module _ (t : Table) (R : Rules) (number : Record → ℕ) (g : ℕ) where
   Meets p E n k Return = ⊥
 
   single-meets : (p n k : ℕ) (E : R .Env) (i : Record) → Single i → (OfSingle p E n k i → Meets p E n k i) × (Meets p E n k i → OfSingle p E n k i)
-  single-meets p n k E (Do i) s = (λ w. w, λ w. w)
-  single-meets p n k E (Call f m) s = (λ w. w, λ w. w)
-  single-meets p n k E (If r e) s = absurd s
-  single-meets p n k E (Else m) s = absurd s
-  single-meets p n k E Endif s = absurd s
-  single-meets p n k E (While r e L) s = absurd s
-  single-meets p n k E (Endwhile w) s = absurd s
-  single-meets p n k E Return s = absurd s
+  single-meets p n k E = of-single (λ i. (OfSingle p E n k i → Meets p E n k i) × (Meets p E n k i → OfSingle p E n k i)) (λ s. (λ w. w, λ w. w)) (λ f m. (λ w. w, λ w. w))
 
   shut-meets : (p n k : ℕ) (E : R .Env) (i : Record) → Closes i → Meets p E n k i → ⊥
-  shut-meets p n k E (Do s) c w = c
-  shut-meets p n k E (Call f m) c w = c
-  shut-meets p n k E (If r e) c w = c
-  shut-meets p n k E (Else m) c w = w
-  shut-meets p n k E Endif c w = w
-  shut-meets p n k E (While r e L) c w = c
-  shut-meets p n k E (Endwhile m) c w = w
-  shut-meets p n k E Return c w = w
+  shut-meets p n k E = of-closing (λ i. Meets p E n k i → ⊥) (λ _ w. w) (λ w. w) (λ _ w. w) (λ w. w)
 
   meets : {p n k : ℕ} {E : R .Env} → Faults t R number g p E n k → Meets p E n k (t .rec p)
   meets (fails {p = p} {n = n} {E = E} s f e) = single-meets p n p E (t .rec p) s .0 (inl (f, (e, refl)))

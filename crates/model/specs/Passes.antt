@@ -8,7 +8,7 @@ use mathlib.Core.Path.{_≡_, refl, sym, ap, subst, _∙_}
 use mathlib.Core.Logic.{_↔_}
 use mathlib.Core.Bool.{Bool, true, false, true≢false}
 use Rattle.model.specs.Tests.{pick, Decides, pick-ind}
-use Rattle.model.specs.Records.{lengthOf, length-pos, Single, Closes}
+use Rattle.model.specs.Records.{lengthOf, length-pos, Single, Closes, of-single, of-closing}
 use Rattle.model.specs.Table.{Table}
 use Rattle.model.specs.Blocks.{Rules, Types, done, one, branch, loop, TypesFunction}
 use Rattle.model.specs.Rules.{reading}
@@ -39,24 +39,10 @@ module _ (t : Table) (R : Rules) (h : ℕ) where
   Begins p E q F Return = F ≡ E
 
   begins-done : (p : ℕ) (E : R .Env) (i : Record) → Closes i → Begins p E p E i
-  begins-done p E (Do s) c = absurd c
-  begins-done p E (Call f m) c = absurd c
-  begins-done p E (If r e) c = absurd c
-  begins-done p E (Else n) c = refl
-  begins-done p E Endif c = refl
-  begins-done p E (While r e L) c = absurd c
-  begins-done p E (Endwhile w) c = refl
-  begins-done p E Return c = refl
+  begins-done p E = of-closing (Begins p E p E) (λ _. refl) refl (λ _. refl) refl
 
   begins-one : (p q : ℕ) (E F : R .Env) (i : Record) → Single i → R .Needs h i E → Types t R h (p + lengthOf i) (R .after i E) q F → Begins p E q F i
-  begins-one p q E F (Do i) s n w = (n, w)
-  begins-one p q E F (Call f m) s n w = (n, w)
-  begins-one p q E F (If r e) s n w = absurd s
-  begins-one p q E F (Else k) s n w = absurd s
-  begins-one p q E F Endif s n w = absurd s
-  begins-one p q E F (While r e L) s n w = absurd s
-  begins-one p q E F (Endwhile k) s n w = absurd s
-  begins-one p q E F Return s n w = absurd s
+  begins-one p q E F = of-single (λ i. R .Needs h i E → Types t R h (p + lengthOf i) (R .after i E) q F → Begins p E q F i) (λ s n w. (n, w)) (λ f m n w. (n, w))
 
   begins : {p q : ℕ} {E F : R .Env} → Types t R h p E q F → Closes (t .rec q) → Begins p E q F (t .rec p)
   begins (done {p = p} {E = E}) c = begins-done p E (t .rec p) c
@@ -65,28 +51,14 @@ module _ (t : Table) (R : Rules) (h : ℕ) where
   begins (loop {E₁ = E₁} i v g a j u z) c = rw i (E₁, v, g, a, u, z)
 
   begins-single : (p q : ℕ) (E F : R .Env) (i : Record) → Single i → Begins p E q F i → R .Needs h i E × Types t R h (p + lengthOf i) (R .after i E) q F
-  begins-single p q E F (Do i) s w = w
-  begins-single p q E F (Call f m) s w = w
-  begins-single p q E F (If r e) s w = absurd s
-  begins-single p q E F (Else k) s w = absurd s
-  begins-single p q E F Endif s w = absurd s
-  begins-single p q E F (While r e L) s w = absurd s
-  begins-single p q E F (Endwhile k) s w = absurd s
-  begins-single p q E F Return s w = absurd s
+  begins-single p q E F = of-single (λ i. Begins p E q F i → R .Needs h i E × Types t R h (p + lengthOf i) (R .after i E) q F) (λ s w. w) (λ f m w. w)
 
   -- a derivation whose first record opens and closes no block: that record's needs are met, and the rest is a derivation
   pub past-single : {p q : ℕ} {E F : R .Env} → Types t R h p E q F → Closes (t .rec q) → Single (t .rec p) → R .Needs h (t .rec p) E × Types t R h (p + lengthOf (t .rec p)) (R .after (t .rec p) E) q F
   past-single {p = p} {q = q} {E = E} {F = F} w c s = begins-single p q E F (t .rec p) s (begins w c)
 
   begins-shut : (p q : ℕ) (E F : R .Env) (i : Record) → Closes i → Begins p E q F i → F ≡ E
-  begins-shut p q E F (Do s) c w = absurd c
-  begins-shut p q E F (Call f m) c w = absurd c
-  begins-shut p q E F (If r e) c w = absurd c
-  begins-shut p q E F (Else n) c w = w
-  begins-shut p q E F Endif c w = w
-  begins-shut p q E F (While r e L) c w = absurd c
-  begins-shut p q E F (Endwhile k) c w = w
-  begins-shut p q E F Return c w = w
+  begins-shut p q E F = of-closing (λ i. Begins p E q F i → F ≡ E) (λ _ w. w) (λ w. w) (λ _ w. w) (λ w. w)
 
 pub else-same : (i : Record) (m n : ℕ) → i ≡ Else m → i ≡ Else n → m ≡ n
 else-same i m n e f = cc

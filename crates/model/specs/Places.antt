@@ -3,10 +3,10 @@ use Prim.Native.Nat.{ℕ, suc, _+_, max}
 use mathlib.Core.Path.{_≡_, refl, subst}
 use mathlib.Core.Logic.{_⊎_, inl, inr}
 use mathlib.Core.Bool.{Bool, true≢false}
-use Rattle.model.specs.Records.{lengthOf, Single}
+use Rattle.model.specs.Records.{lengthOf, Single, of-single}
 use Rattle.model.specs.Table.{Table}
 use Rattle.model.specs.declared.Record.{Record}
-use Rattle.model.specs.declared.Record.the-variants.{Do, Call, If, Else, Endif, While, Endwhile, Return}
+use Rattle.model.specs.declared.Record.the-variants.{Call, If, Else, Endif, While, Endwhile, Return}
 use Rattle.model.specs.Blocks.{Rules, Types, done, one, branch, loop}
 use Rattle.model.specs.InOrder.{Chain, stay, on, chain-trans, past, meet}
 use Rattle.model.specs.Flow.{To, Flow}
@@ -166,14 +166,8 @@ module _ (t : Table) (R : Rules) where
     FlowsAt c G = Flow t R at f c G (t .rec c)
 
     single : (p : ℕ) (E : R .Env) (i : Record) → t .rec p ≡ i → Single i → R .Needs f i E → To t R at f (p + lengthOf i) (R .after i E) → Enters p E → Flow t R at f p E i
-    single p E (Do i) e s n w x = (n, w)
-    single p E (Call g m) e s n w x = ((n, w), x g m e)
-    single p E (If r k) e s n w x = absurd s
-    single p E (Else k) e s n w x = absurd s
-    single p E Endif e s n w x = absurd s
-    single p E (While r k L) e s n w x = absurd s
-    single p E (Endwhile k) e s n w x = absurd s
-    single p E Return e s n w x = absurd s
+    single p E i e s n w x = of-single (λ i. t .rec p ≡ i → R .Needs f i E → To t R at f (p + lengthOf i) (R .after i E) → Flow t R at f p E i)
+        (λ s e n w. (n, w)) (λ g m e n w. ((n, w), x g m e)) i s e n w
 
     -- the flow facts of every record of a derivation
     pub flows : {p q : ℕ} {E F : R .Env} (d : Types t R f p E q F) → All (at f) d → All Enters d → at f q F → All FlowsAt d

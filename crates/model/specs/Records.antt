@@ -1,7 +1,7 @@
 -- Document 01, "Table layout": the records of code, decoded.
 use Prim.Native.Nat.{ℕ, _≤_, _<_}
 use mathlib.Core.Path.{_≡_}
-use mathlib.Core.Bool.{true}
+use mathlib.Core.Bool.{Bool, true}
 use mathlib.Core.List.{List}
 use lib.ListN.{getD}
 use native.Mathlib.Omega.{arith}
@@ -79,6 +79,17 @@ Closes (While r e L) = ⊥
 Closes (Endwhile w) = Unit {0}
 Closes Return = Unit {0}
 
+-- f of a simple record, g of a CALL, and a of any other: for what those alone have a say in
+abbrev pub bySingle {ℓ} : {A : Type ℓ} → (Simple → A) → (ℕ → Bool → A) → A → Record → A
+bySingle f g a (Do s) = f s
+bySingle f g a (Call c m) = g c m
+bySingle f g a (If r e) = a
+bySingle f g a (Else n) = a
+bySingle f g a Endif = a
+bySingle f g a (While r e L) = a
+bySingle f g a (Endwhile w) = a
+bySingle f g a Return = a
+
 -- fields in range, for n registers, m arrays (fault 4)
 abbrev pub SimpleFits : ℕ → ℕ → Simple → Type 0
 SimpleFits n m (Const d v) = d < n
@@ -127,11 +138,41 @@ SimpleReaches ws (LoadFixed d a i) = i < getD ws a 0
 SimpleReaches ws (StoreFixed a i s) = i < getD ws a 0
 
 abbrev pub Reaches : List ℕ → Record → Type 0
-Reaches ws (Do s) = SimpleReaches ws s
-Reaches ws (Call f m) = Unit {0}
-Reaches ws (If r e) = Unit {0}
-Reaches ws (Else n) = Unit {0}
-Reaches ws Endif = Unit {0}
-Reaches ws (While r e L) = Unit {0}
-Reaches ws (Endwhile w) = Unit {0}
-Reaches ws Return = Unit {0}
+Reaches ws = bySingle (SimpleReaches ws) (λ f m. Unit {0}) (Unit {0})
+
+-- ---- laws: by cases on a record that opens or closes no block; on one that closes a block or the function
+pub of-single : (P : Record → Type 0) → ((s : Simple) → P (Do s)) → ((f : ℕ) (m : Bool) → P (Call f m)) → (i : Record) → Single i → P i
+of-single P h k (Do s) c = h s
+of-single P h k (Call f m) c = k f m
+of-single P h k (If r e) c = absurd c
+of-single P h k (Else n) c = absurd c
+of-single P h k Endif c = absurd c
+of-single P h k (While r e L) c = absurd c
+of-single P h k (Endwhile w) c = absurd c
+of-single P h k Return c = absurd c
+
+pub of-closing : (P : Record → Type 0) → ((n : ℕ) → P (Else n)) → P Endif → ((w : ℕ) → P (Endwhile w)) → P Return → (i : Record) → Closes i → P i
+of-closing P h k l m (Do s) c = absurd c
+of-closing P h k l m (Call f b) c = absurd c
+of-closing P h k l m (If r e) c = absurd c
+of-closing P h k l m (Else n) c = h n
+of-closing P h k l m Endif c = k
+of-closing P h k l m (While r e L) c = absurd c
+of-closing P h k l m (Endwhile w) c = l w
+of-closing P h k l m Return c = m
+
+-- what is said of two parts that go by bySingle, and of one
+pub by-singles {ℓ ℓ′} : {A : Type ℓ} {B : Type ℓ′} {f : Simple → A} {g : ℕ → Bool → A} {a : A} {f′ : Simple → B} {g′ : ℕ → Bool → B} {b : B} (P : Record → A → B → Type 0)
+    → ((s : Simple) → P (Do s) (f s) (f′ s)) → ((c : ℕ) (m : Bool) → P (Call c m) (g c m) (g′ c m)) → ((i : Record) → P i a b) → (i : Record) → P i (bySingle f g a i) (bySingle f′ g′ b i)
+by-singles P h k l (Do s) = h s
+by-singles P h k l (Call c m) = k c m
+by-singles P h k l (If r e) = l (If r e)
+by-singles P h k l (Else n) = l (Else n)
+by-singles P h k l Endif = l Endif
+by-singles P h k l (While r e L) = l (While r e L)
+by-singles P h k l (Endwhile w) = l (Endwhile w)
+by-singles P h k l Return = l Return
+
+pub by-single {ℓ} : {A : Type ℓ} {f : Simple → A} {g : ℕ → Bool → A} {a : A} (P : Record → A → Type 0)
+    → ((s : Simple) → P (Do s) (f s)) → ((c : ℕ) (m : Bool) → P (Call c m) (g c m)) → ((i : Record) → P i a) → (i : Record) → P i (bySingle f g a i)
+by-single P h k l = by-singles {B = Unit {0}} {f′ = λ _. tt} {g′ = λ _ _. tt} {b = tt} (λ i x _. P i x) h k l

@@ -6,6 +6,7 @@ use lib.Dec.{eqb, leb, ltb}
 use Rattle.model.specs.Tests.{pick, put}
 use Rattle.model.specs.Levels.{Env, Within, join, within-refl, within-trans, join-left, join-right}
 use Rattle.model.specs.Packing.{envOf}
+use Rattle.model.specs.Records.{bySingle}
 use Rattle.model.specs.Table.{Table}
 use Rattle.model.specs.Blocks.{Rules, Every}
 use Rattle.model.specs.declared.Status.{Status}
@@ -13,7 +14,6 @@ use Rattle.model.specs.declared.Status.the-variants.{Unknown, Updated, O
 use Rattle.model.specs.declared.Simple.{Simple}
 use Rattle.model.specs.declared.Simple.the-variants.{Const, Op, Select, Load, Store, Init, Update, Protect, LoadFixed, StoreFixed}
 use Rattle.model.specs.declared.Record.{Record}
-use Rattle.model.specs.declared.Record.the-variants.{Do, Call, If, Else, Endif, While, Endwhile, Return}
 
 -- "any other write to r turns outdated(r, s) into unknown"
 unfoldable pub kill : ℕ → Status → Status
@@ -109,26 +109,13 @@ abbrev pub returned : Env → Bool → Env → Env
 returned out mark E = record { status = callStatus mark (out .status); regs = out .regs; arrays = out .arrays }
 
 module _ (t : Table) where
+  -- what a record asks. One that opens or closes a block asks nothing here, and changes nothing: its rule is that of blocks
   abbrev pub NeedsOf : Record → Env → Type 0
-  NeedsOf (Do s) E = Needs s E
-  NeedsOf (Call f m) E = Within (t .registers) (t .arrays) E (t .enter f)
-  NeedsOf (If r e) E = Unit {0}
-  NeedsOf (Else n) E = Unit {0}
-  NeedsOf Endif E = Unit {0}
-  NeedsOf (While r e L) E = Unit {0}
-  NeedsOf (Endwhile w) E = Unit {0}
-  NeedsOf Return E = Unit {0}
+  NeedsOf i E = bySingle (λ s. Needs s E) (λ f m. Within (t .registers) (t .arrays) E (t .enter f)) (Unit {0}) i
 
-  -- rule: what simple records make of the environment
+  -- the environment after it; rule: what simple records make of it
   abbrev pub afterBy : (rule : Simple → Env → Env) → Record → Env → Env
-  afterBy rule (Do s) E = rule s E
-  afterBy rule (Call f m) E = returned (t .leave f) m E
-  afterBy rule (If r e) E = E
-  afterBy rule (Else n) E = E
-  afterBy rule Endif E = E
-  afterBy rule (While r e L) E = E
-  afterBy rule (Endwhile w) E = E
-  afterBy rule Return E = E
+  afterBy rule i E = bySingle (λ s. rule s E) (λ f m. returned (t .leave f) m E) E i
 
   abbrev pub afterOf : Record → Env → Env
   afterOf = afterBy (after (t .arrays))
@@ -162,14 +149,7 @@ Typed t = Every t (typing t)
 
 -- reading's rules: a CALL is of a lower function (fault 7)
 abbrev pub Lower : ℕ → Record → Type 0
-Lower g (Do s) = Unit {0}
-Lower g (Call f m) = f < g
-Lower g (If r e) = Unit {0}
-Lower g (Else n) = Unit {0}
-Lower g Endif = Unit {0}
-Lower g (While r e L) = Unit {0}
-Lower g (Endwhile w) = Unit {0}
-Lower g Return = Unit {0}
+Lower g = bySingle (λ s. Unit {0}) (λ f m. f < g) (Unit {0})
 
 abbrev pub reading : Rules
 reading = record {

@@ -9,22 +9,15 @@ use mathlib.Core.Option.{Option, none, some}
 use lib.Dec.{eqb, leb}
 use borrow.Author.Tests.{eq-eqb, ne-eqb}
 use Rattle.model.specs.Tests.{pick, same}
-use Rattle.model.specs.Records.{lengthOf, length-pos}
+use Rattle.model.specs.Records.{lengthOf, length-pos, bySingle, by-single}
 use Rattle.model.specs.Table.{Table}
 use Rattle.model.specs.InOrder.{Chain, stay, on, chain-le, Placed, In, codeFrom, code, code-on, code-end, listed-met}
 use Rattle.model.specs.declared.Record.{Record}
-use Rattle.model.specs.declared.Record.the-variants.{Do, Call, If, Else, Endif, While, Endwhile, Return}
+use Rattle.model.specs.declared.Record.the-variants.{Call}
 
 -- the mark, if the record is a CALL of f
 abbrev pub markOf : Record → ℕ → Option Bool
-markOf (Do s) f = none
-markOf (Call g m) f = pick (eqb g f) (some m) none
-markOf (If r e) f = none
-markOf (Else n) f = none
-markOf Endif f = none
-markOf (While r e L) f = none
-markOf (Endwhile w) f = none
-markOf Return f = none
+markOf i f = bySingle (λ s. none) (λ g m. pick (eqb g f) (some m) none) none i
 
 -- the mark of the listed CALL of f that q follows
 abbrev pub markIn : List Placed → ℕ → ℕ → Option Bool
@@ -45,14 +38,9 @@ none-some : (m : Bool) → none ≡ some m → ⊥
 none-some m e = true≢false (cc)
 
 mark-of : (i : Record) (f : ℕ) (m : Bool) → markOf i f ≡ some m → i ≡ Call f m
-mark-of (Do s) f m e = absurd (none-some m e)
-mark-of (Call g k) f m e = same g f (λ b. pick b (some k) none ≡ some m → Call g k ≡ Call f m) (λ q h. rw q (ap (λ (z : Bool). Call f z) (cc))) (λ _ h. absurd (none-some m h)) e
-mark-of (If r k) f m e = absurd (none-some m e)
-mark-of (Else n) f m e = absurd (none-some m e)
-mark-of Endif f m e = absurd (none-some m e)
-mark-of (While r k L) f m e = absurd (none-some m e)
-mark-of (Endwhile w) f m e = absurd (none-some m e)
-mark-of Return f m e = absurd (none-some m e)
+mark-of i f m = by-single (λ i o. o ≡ some m → i ≡ Call f m) (λ s e. absurd (none-some m e))
+    (λ g k. same g f (λ b. pick b (some k) none ≡ some m → Call g k ≡ Call f m) (λ q h. rw q (ap (λ (z : Bool). Call f z) (cc))) (λ _ h. absurd (none-some m h)))
+    (λ _ e. absurd (none-some m e)) i
 
 -- a mark that is found is that of a listed CALL
 pub mark-listed : (xs : List Placed) (f q : ℕ) (m : Bool) → markIn xs f q ≡ some m → (c : ℕ) × In c (Call f m) xs × (q ≡ c + 3)

@@ -4,7 +4,7 @@ use Prim.Native.Nat.{ℕ, zero, suc, _+_}
 use mathlib.Core.Path.{_≡_, refl}
 use mathlib.Core.Bool.{Bool, true, false}
 use Rattle.model.specs.Tests.{pick, Decides}
-use Rattle.model.specs.Records.{lengthOf, Single, Closes}
+use Rattle.model.specs.Records.{lengthOf, Single, Closes, of-single, of-closing}
 use Rattle.model.specs.Table.{Table}
 use Rattle.model.specs.Blocks.{Rules}
 use Rattle.model.specs.declared.Record.{Record}
@@ -89,21 +89,7 @@ module _ (t : Table) (R : Rules) (D : Tests R) where
   functionAt size g = onShut (blockWith (instrAt 16 size) size (t .start g) (R .enter g)) λ p E. pick (D .within E (R .leave g)) (Shut p E) (Fault 14 p)
 
   pub shut-at : (i : Record) (B : ℕ → R .Env → Walked (R .Env)) (p : ℕ) (E : R .Env) → Closes i → instrWith B i p E ≡ Shut p E
-  shut-at (Do s) B p E c = absurd c
-  shut-at (Call f m) B p E c = absurd c
-  shut-at (If r e) B p E c = absurd c
-  shut-at (Else n) B p E c = refl
-  shut-at Endif B p E c = refl
-  shut-at (While r e L) B p E c = absurd c
-  shut-at (Endwhile w) B p E c = refl
-  shut-at Return B p E c = refl
+  shut-at i B p E = of-closing (λ i. instrWith B i p E ≡ Shut p E) (λ _. refl) refl (λ _. refl) refl i
 
   pub single-at : (i : Record) (B : ℕ → R .Env → Walked (R .Env)) (p : ℕ) (E : R .Env) → Single i → instrWith B i p E ≡ single i p E
-  single-at (Do s) B p E c = refl
-  single-at (Call f m) B p E c = refl
-  single-at (If r e) B p E c = absurd c
-  single-at (Else n) B p E c = absurd c
-  single-at Endif B p E c = absurd c
-  single-at (While r e L) B p E c = absurd c
-  single-at (Endwhile w) B p E c = absurd c
-  single-at Return B p E c = absurd c
+  single-at i B p E = of-single (λ i. instrWith B i p E ≡ single i p E) (λ s. refl) (λ f m. refl) i

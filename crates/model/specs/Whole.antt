@@ -10,7 +10,7 @@ use borrow.Author.Tests.{le-ltb}
 use Rattle.model.specs.Tests.{pick, put, same, pick-ind, trues}
 use Rattle.model.specs.Levels.{Env, join}
 use Rattle.model.specs.Packing.{envOf, levelsIn, packedIn}
-use Rattle.model.specs.Records.{SimpleFits, Fits, Keeps}
+use Rattle.model.specs.Records.{SimpleFits, Fits, Keeps, by-single}
 use Rattle.model.specs.Table.{Table}
 use Rattle.model.specs.Rules.{settle, beside, written, raised, guarded, after, afterOf, typing}
 use Rattle.model.specs.Words.{NoThree, Levelled, levels-in}
@@ -115,14 +115,8 @@ module _ (t : Table) (leaves : (f : ℕ) → f < t .functions → Whole (t .regi
   W = Whole (t .registers) (t .arrays)
 
   after-of-whole : (i : Record) (E : Env) → Fits (t .registers) (t .arrays) i → Keeps (t .registers) (t .arrays) (t .functions) i → W E → W (afterOf t i E)
-  after-of-whole (Do s) E f k w = after-whole (t .registers) (t .arrays) E w s f
-  after-of-whole (Call g b) E f k w = let o = leaves g k in record { regs = o .regs; arrays = o .arrays }
-  after-of-whole (If r e) E f k w = w
-  after-of-whole (Else n) E f k w = w
-  after-of-whole Endif E f k w = w
-  after-of-whole (While r e L) E f k w = w
-  after-of-whole (Endwhile e) E f k w = w
-  after-of-whole Return E f k w = w
+  after-of-whole i E = by-single (λ i F. Fits (t .registers) (t .arrays) i → Keeps (t .registers) (t .arrays) (t .functions) i → W E → W F)
+      (λ s f k w. after-whole (t .registers) (t .arrays) E w s f) (λ g b f k w. let o = leaves g k in record { regs = o .regs; arrays = o .arrays }) (λ _ f k w. w) i
 
   abbrev Kept : Walked Env → Type 0
   Kept = Where W

@@ -11,7 +11,7 @@ use lib.ListN.{length}
 use lib.Dec.{ltb, eqb}
 use borrow.Author.Tests.{ltb-true, eqb-true}
 use Rattle.model.specs.Tests.{pick, same, pick-ind}
-use Rattle.model.specs.Records.{lengthOf, Single, Closes}
+use Rattle.model.specs.Records.{lengthOf, Single, Closes, of-closing}
 use Rattle.model.specs.Table.{Table}
 use Rattle.model.specs.Blocks.{Types, done, one, branch, loop}
 use Rattle.model.specs.Rules.{reading, Lower}
@@ -42,14 +42,11 @@ abbrev ByKind : List ℕ → ℕ → ℕ → Record → Type 0
 ByKind t p c r = (c ≡ 0x21 → r ≡ Else (word16 t (p + 1))) × (c ≡ 0x22 → r ≡ Endif) × (c ≡ 0x24 → r ≡ Endwhile (word16 t (p + 1))) × (c ≡ 0x25 → r ≡ Return)
 
 by-kind : (t : List ℕ) (p c : ℕ) (r : Record) → Closes r → kindOf r ≡ c → Names t p r → ByKind t p c r
-by-kind t p c (Do s) h k n = absurd h
-by-kind t p c (Call f m) h k n = absurd h
-by-kind t p c (If x e) h k n = absurd h
-by-kind t p c (Else m) h k n = (λ _. ap (λ (x : ℕ). Else x) n, λ e. absurd (omega arith), λ e. absurd (omega arith), λ e. absurd (omega arith))
-by-kind t p c Endif h k n = (λ e. absurd (omega arith), λ _. refl, λ e. absurd (omega arith), λ e. absurd (omega arith))
-by-kind t p c (While x e L) h k n = absurd h
-by-kind t p c (Endwhile m) h k n = (λ e. absurd (omega arith), λ e. absurd (omega arith), λ _. ap (λ (x : ℕ). Endwhile x) n, λ e. absurd (omega arith))
-by-kind t p c Return h k n = (λ e. absurd (omega arith), λ e. absurd (omega arith), λ e. absurd (omega arith), λ _. refl)
+by-kind t p c = of-closing (λ r. kindOf r ≡ c → Names t p r → ByKind t p c r)
+    (λ m k n. (λ _. ap (λ (x : ℕ). Else x) n, λ e. absurd (omega arith), λ e. absurd (omega arith), λ e. absurd (omega arith)))
+    (λ k n. (λ e. absurd (omega arith), λ _. refl, λ e. absurd (omega arith), λ e. absurd (omega arith)))
+    (λ m k n. (λ e. absurd (omega arith), λ e. absurd (omega arith), λ _. ap (λ (x : ℕ). Endwhile x) n, λ e. absurd (omega arith)))
+    (λ k n. (λ e. absurd (omega arith), λ e. absurd (omega arith), λ e. absurd (omega arith), λ _. refl))
 
 -- function g of a table
 module _ (t : List ℕ) (g : ℕ) where

@@ -8,7 +8,7 @@ use lib.ListN.{length}
 use lib.Dec.{ltb, leb, eqb}
 use borrow.Author.Tests.{eqb-true}
 use Rattle.model.specs.Tests.{pick-ind}
-use Rattle.model.specs.Records.{lengthOf, length-pos, Closes}
+use Rattle.model.specs.Records.{lengthOf, length-pos, Closes, of-closing}
 use Rattle.model.specs.declared.Sizes.{Sizes}
 use Rattle.model.specs.declared.Record.{Record}
 use Rattle.model.specs.declared.Record.the-variants.{Do, Call, If, Else, Endif, While, Endwhile, Return}
@@ -47,14 +47,8 @@ record-good z t c at =
 -- of the closing kinds only c is allowed
 closing-kind : (c : ℕ) (r : Record) → Closes r → allowed c (kindOf r) ≡ true → kindOf r ≡ c
 unfolding allowed
-closing-kind c (Do s) h a = absurd h
-closing-kind c (Call f m) h a = absurd h
-closing-kind c (If r e) h a = absurd h
-closing-kind c (Else n) h a = sym (eqb-true c 0x21 a)
-closing-kind c Endif h a = sym (eqb-true c 0x22 a)
-closing-kind c (While r e L) h a = absurd h
-closing-kind c (Endwhile w) h a = sym (eqb-true c 0x24 a)
-closing-kind c Return h a = sym (eqb-true c 0x25 a)
+closing-kind c = of-closing (λ r. allowed c (kindOf r) ≡ true → kindOf r ≡ c)
+    (λ n a. sym (eqb-true c 0x21 a)) (λ a. sym (eqb-true c 0x22 a)) (λ w a. sym (eqb-true c 0x24 a)) (λ a. sym (eqb-true c 0x25 a))
 
 pub closing : (z : Sizes) (t : List ℕ) (c at n : ℕ) (r : Record) → GoodAt z t c at (Got r n) → Closes r → Closing z t c at
 closing z t c at n r (e, a) h =
@@ -78,18 +72,10 @@ closing-in : (z : Sizes) (t : List ℕ) (c p : ℕ) → Closing z t c p → p < 
 closing-in z t c p k = omega (arith, k .whole, length-pos (k .with))
 
 -- ELSE and ENDWHILE take three bytes
-abbrev Three : ℕ → Record → Type 0
-Three c r = Closes r → kindOf r ≡ c → (c ≡ 0x21 → lengthOf r ≡ 3) × (c ≡ 0x24 → lengthOf r ≡ 3)
-
-three : (c : ℕ) (r : Record) → Three c r
-three c (Do s) h k = absurd h
-three c (Call f m) h k = absurd h
-three c (If r e) h k = absurd h
-three c (Else n) h k = (λ _. refl, λ _. refl)
-three c Endif h k = (λ e. absurd (omega arith), λ e. absurd (omega arith))
-three c (While r e L) h k = absurd h
-three c (Endwhile w) h k = (λ _. refl, λ _. refl)
-three c Return h k = (λ e. absurd (omega arith), λ e. absurd (omega arith))
+three : (c : ℕ) (r : Record) → Closes r → kindOf r ≡ c → (c ≡ 0x21 → lengthOf r ≡ 3) × (c ≡ 0x24 → lengthOf r ≡ 3)
+three c = of-closing (λ r. kindOf r ≡ c → (c ≡ 0x21 → lengthOf r ≡ 3) × (c ≡ 0x24 → lengthOf r ≡ 3))
+    (λ n k. (λ _. refl, λ _. refl)) (λ k. (λ e. absurd (omega arith), λ e. absurd (omega arith)))
+    (λ w k. (λ _. refl, λ _. refl)) (λ k. (λ e. absurd (omega arith), λ e. absurd (omega arith)))
 
 pub else-whole : (z : Sizes) (t : List ℕ) (p : ℕ) → Closing z t 0x21 p → p + 3 ≤ length t
 else-whole z t p k = let e = three 0x21 (k .with) (k .closes) (k .kind) .0 refl in omega (arith, k .whole, e)

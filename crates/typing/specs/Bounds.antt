@@ -9,7 +9,7 @@ use lib.ListN.{length}
 use Rattle.model.specs.Tests.{pick-ind}
 use Rattle.model.specs.Levels.{Env as Environment, within}
 use Rattle.model.specs.Packing.{envOf}
-use Rattle.model.specs.Records.{lengthOf, length-pos}
+use Rattle.model.specs.Records.{lengthOf, length-pos, Closes}
 use Rattle.model.specs.Rules.{typing}
 use Rattle.model.specs.Decide.{typingTests, meetsOf}
 use Rattle.model.specs.Walk.{Walked as Walking, Next as Onward, Shut as Closed, Fault as Halt, onNext, onShut, single, ifWith, whileWith, instrWith, blockWith, instrAt}
@@ -32,29 +32,12 @@ module _ (z : Sizes) (t : List ℕ) where
   OkBlock d at (Closed p E) = (at ≤ p) × (p ≤ max at (length t + 4 * d))
   OkBlock d at (Halt n p) = Unit {0}
 
-  -- a record that is no RETURN lies in the table
+  -- a record that closes no block lies in the table
   abbrev Inside : ℕ → Record → Type 0
-  Inside p (Do s) = p + lengthOf (Do s) ≤ length t
-  Inside p (Call f m) = p + 3 ≤ length t
-  Inside p (If r e) = p + 4 ≤ length t
-  Inside p (Else n) = Unit {0}
-  Inside p Endif = Unit {0}
-  Inside p (While r e L) = p + 11 ≤ length t
-  Inside p (Endwhile w) = Unit {0}
-  Inside p Return = Unit {0}
-
-  inside-by : (p : ℕ) (r : Record) → p + lengthOf r ≤ length t → Inside p r
-  inside-by p (Do s) h = h
-  inside-by p (Call f m) h = h
-  inside-by p (If r e) h = h
-  inside-by p (Else n) h = tt
-  inside-by p Endif h = tt
-  inside-by p (While r e L) h = h
-  inside-by p (Endwhile w) h = tt
-  inside-by p Return h = tt
+  Inside p i = (Closes i → ⊥) → p + lengthOf i ≤ length t
 
   record-inside : (p : ℕ) → Inside p (recordOf z t p)
-  record-inside p = record-by (Inside p) z t p tt (λ r n e. let g = good z t p e in inside-by p r (omega (arith, g .next, g .whole)))
+  record-inside p = record-by (Inside p) z t p (λ h. absurd (h tt)) (λ r n e _. let g = good z t p e in omega (arith, g .next, g .whole))
 
   shut-ok : (d at c from : ℕ) (w : Walking Environment) (g : ℕ → Environment → Walking Environment) → OkBlock c from w
       → ((p : ℕ) (E : Environment) → from ≤ p → p ≤ max from (length t + 4 * c) → Ok d at (g p E)) → Ok d at (onShut w g)
@@ -62,10 +45,10 @@ module _ (z : Sizes) (t : List ℕ) where
   shut-ok d at c from (Closed p E) g h hg = hg p E (h .0) (h .1)
   shut-ok d at c from (Halt n p) g h hg = tt
 
-  module _ (d : ℕ) (B : ℕ → Environment → Walking Environment) (hB : (p : ℕ) (E : Environment) → OkBlock d p (B p E)) where
-    single-ok : (at : ℕ) (i : Record) (E : Environment) → at + lengthOf i ≤ length t → Ok (suc d) at (single (table z t) (typing (table z t)) (typingTests (table z t)) i at E)
-    single-ok at i E l = pick-ind (Ok (suc d) at) (meetsOf (table z t) i E) (λ _. (omega (arith, length-pos i), omega (arith, length-pos i), omega arith)) (λ _. tt)
+  single-ok : (d at : ℕ) (i : Record) (E : Environment) → at + lengthOf i ≤ length t → Ok d at (single (table z t) (typing (table z t)) (typingTests (table z t)) i at E)
+  single-ok d at i E l = pick-ind (Ok d at) (meetsOf (table z t) i E) (λ _. (omega (arith, length-pos i), omega (arith, length-pos i), omega arith)) (λ _. tt)
 
+  module _ (d : ℕ) (B : ℕ → Environment → Walking Environment) (hB : (p : ℕ) (E : Environment) → OkBlock d p (B p E)) where
     if-ok : (at r : ℕ) (E : Environment) → at + 4 ≤ length t → Ok (suc d) at (ifWith (table z t) (typing (table z t)) (typingTests (table z t)) B at r E)
     if-ok at r E l = pick-ind (Ok (suc d) at) (typingTests (table z t) .public E r)
         (λ _. shut-ok (suc d) at d (at + 4) (B (at + 4) (typing (table z t) .guarded E r true)) _ (hB (at + 4) (typing (table z t) .guarded E r true))
@@ -82,19 +65,19 @@ module _ (z : Sizes) (t : List ℕ) where
         (λ _. tt)
 
     instr-ok : (at : ℕ) (i : Record) (E : Environment) → Inside at i → Ok (suc d) at (instrWith (table z t) (typing (table z t)) (typingTests (table z t)) B i at E)
-    instr-ok at (Do s) E l = single-ok at (Do s) E l
-    instr-ok at (Call f m) E l = single-ok at (Call f m) E l
-    instr-ok at (If r e) E l = if-ok at r E l
+    instr-ok at (Do s) E l = single-ok (suc d) at (Do s) E (l (λ x. x))
+    instr-ok at (Call f m) E l = single-ok (suc d) at (Call f m) E (l (λ x. x))
+    instr-ok at (If r e) E l = if-ok at r E (l (λ x. x))
     instr-ok at (Else n) E l = refl
     instr-ok at Endif E l = refl
-    instr-ok at (While r e L) E l = while-ok at r (envOf L) E l
+    instr-ok at (While r e L) E l = while-ok at r (envOf L) E (l (λ x. x))
     instr-ok at (Endwhile w) E l = refl
     instr-ok at Return E l = refl
 
   -- with no nesting left
   flat-ok : (at : ℕ) (i : Record) (E : Environment) → Inside at i → Ok 0 at (instrWith (table z t) (typing (table z t)) (typingTests (table z t)) (λ q F. Halt 6 at) i at E)
-  flat-ok at (Do s) E l = pick-ind (Ok 0 at) (meetsOf (table z t) (Do s) E) (λ _. (omega (arith, length-pos (Do s)), omega (arith, length-pos (Do s)), omega arith)) (λ _. tt)
-  flat-ok at (Call f m) E l = pick-ind (Ok 0 at) (meetsOf (table z t) (Call f m) E) (λ _. (omega arith, omega arith, omega arith)) (λ _. tt)
+  flat-ok at (Do s) E l = single-ok 0 at (Do s) E (l (λ x. x))
+  flat-ok at (Call f m) E l = single-ok 0 at (Call f m) E (l (λ x. x))
   flat-ok at (If r e) E l = pick-ind (Ok 0 at) (typingTests (table z t) .public E r) (λ _. tt) (λ _. tt)
   flat-ok at (Else n) E l = refl
   flat-ok at Endif E l = refl
