@@ -6,8 +6,11 @@ use Rattle.machine.proofs.memory.put.Tie as tie
 use Rattle.machine.proofs.memory.put.Reads as reads
 use Rattle.machine.proofs.memory.put.Lts as lts
 
+returns : tie.Need-returns
+returns c = search needs
+
 returns-2 : tie.Need-returns-2
 returns-2 c = sym (set-out _ _ _ (c .if1 .left))
 
 pub put-spec : {M : Type 1} → statement M
-put-spec = tie.close (tie.spec (λ c. search needs) (λ c. search needs) (λ c. search needs) (λ c. search needs) returns-2)
+put-spec = tie.close (tie.spec (λ c. search needs) (λ c. search needs) (λ c. search needs) returns returns-2)

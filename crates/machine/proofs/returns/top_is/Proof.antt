@@ -9,6 +9,9 @@ use Rattle.machine.proofs.returns.top_is.Tie as tie
 use Rattle.machine.proofs.returns.top_is.Reads as reads
 use Rattle.machine.proofs.returns.top_is.Lts as lts
 
+returns : tie.Need-returns
+returns c = search needs
+
 returns-2 : tie.Need-returns-2
 returns-2 c =
     let a = c .before .before .args in
@@ -23,4 +26,4 @@ returns-3 c =
 pub top-is-spec : {M : Type 1} → statement M
 top-is-spec =
     tie.close
-    (tie.spec (λ c. search needs) returns-2 (λ c. search needs) (λ c. search needs) (λ c. search needs) (λ c. search needs) (λ c. search needs) returns-3)
+    (tie.spec returns returns-2 (λ c. search needs) (λ c. search needs) (λ c. search needs) (λ c. search needs) (λ c. search needs) returns-3)

@@ -8,5 +8,8 @@ use Rattle.machine.proofs.values.times.Lts as lts
 mul-result : tie.Need-mul-result
 mul-result c = record { fits = product (search needs) (search needs) }
 
+returns : tie.Need-returns
+returns c = search needs
+
 pub times-spec : {M : Type 1} → statement M
-times-spec = tie.close (tie.spec mul-result (λ c. search needs) (λ c. search needs))
+times-spec = tie.close (tie.spec mul-result (λ c. search needs) returns)
