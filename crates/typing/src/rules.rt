@@ -1,5 +1,6 @@
 // The rules for single records: what a record asks of the environment, and the environment after it.
 use crate::Env;
+use crate::environments::env_from;
 use crate::environments::killed;
 use crate::environments::same_status;
 use levels::join_levels;
@@ -117,13 +118,7 @@ fn written_env(e: Env, d: u8, l: u8) -> Env
 {
     let registers = with_level(e.registers, d, l);
     let s = e.status;
-    let status = killed(d, s);
-    let arrays = e.arrays;
-    Env {
-        status,
-        registers,
-        arrays,
-    }
+    env_from(killed(d, s), registers, e.arrays)
 }
 
 fn after_op(e: Env, dest: u8, left: u8, right: u8) -> Env
@@ -169,15 +164,10 @@ fn raised_env(e: Env, others: u32, array: u8, source: u8) -> Env
     requires { ⌜ array < 16 ⌝ }
     ensures { λ r. ⌜ viewEnv r ≡ raised (viewEnv e) (slot others) array (viewEnv e .regs source) ⌝ }
 {
-    let registers = e.registers;
-    let named = larger(level(e.arrays, array), level(registers, source));
+    let named = larger(level(e.arrays, array), level(e.registers, source));
     let arrays = with_level(others, array, named);
     let status = e.status;
-    Env {
-        status,
-        registers,
-        arrays,
-    }
+    env_from(status, e.registers, arrays)
 }
 
 // The levels of so many arrays beside one into which level l is stored: what was public becomes transient, unless l is public.
@@ -216,23 +206,13 @@ fn after_init(e: Env) -> Env
 {
     let registers = settle_levels(e.registers);
     let arrays = settle_levels(e.arrays);
-    Env {
-        status: Status::Updated,
-        registers,
-        arrays,
-    }
+    env_from(Status::Updated, registers, arrays)
 }
 
 fn after_update(e: Env) -> Env
     ensures { λ r. ⌜ viewEnv r ≡ updated (viewEnv e) ⌝ }
 {
-    let registers = e.registers;
-    let arrays = e.arrays;
-    Env {
-        status: Status::Updated,
-        registers,
-        arrays,
-    }
+    env_from(Status::Updated, e.registers, e.arrays)
 }
 
 fn after_protect(e: Env, dest: u8, source: u8) -> Env
@@ -241,12 +221,7 @@ fn after_protect(e: Env, dest: u8, source: u8) -> Env
 {
     let a = e.registers;
     let registers = with_level(a, dest, settled(level(a, source)));
-    let arrays = e.arrays;
-    Env {
-        status: Status::Updated,
-        registers,
-        arrays,
-    }
+    env_from(Status::Updated, registers, e.arrays)
 }
 
 // The environment after a simple record whose fields are in range.
