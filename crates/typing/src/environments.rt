@@ -20,12 +20,12 @@ pub(crate) fn same_status(a: Status, b: Status) -> bool
         Status::Unknown => match b {
             Status::Unknown => true,
             Status::Updated => false,
-            Status::Outdated(q, c) => false,
+            Status::Outdated(..) => false,
         },
         Status::Updated => match b {
             Status::Unknown => false,
             Status::Updated => true,
-            Status::Outdated(q, c) => false,
+            Status::Outdated(..) => false,
         },
         Status::Outdated(r, s) => match b {
             Status::Unknown => false,
@@ -53,7 +53,7 @@ fn covers_status(a: Status, b: Status) -> bool
     match b {
         Status::Unknown => true,
         Status::Updated => same_status(a, b),
-        Status::Outdated(q, c) => same_status(a, b),
+        Status::Outdated(..) => same_status(a, b),
     }
 }
 
@@ -88,7 +88,7 @@ fn guard_status(r: u8, s: bool, a: Status) -> Status
     match a {
         Status::Unknown => Status::Unknown,
         Status::Updated => Status::Outdated(r, s),
-        Status::Outdated(q, c) => Status::Unknown,
+        Status::Outdated(..) => Status::Unknown,
     }
 }
 
@@ -101,7 +101,7 @@ fn call_status(mark: bool, a: Status) -> Status
     match a {
         Status::Unknown => Status::Unknown,
         Status::Updated => Status::Updated,
-        Status::Outdated(r, s) => Status::Unknown,
+        Status::Outdated(..) => Status::Unknown,
     }
 }
 
