@@ -1,10 +1,12 @@
 -- Document 01's rules as tests, with the numbers of their faults; and that the tests decide the rules.
 use Prim.Native.Nat.{ℕ}
+use native.Mathlib.Omega.{arith}
 use mathlib.Core.Path.{_≡_, refl}
-use mathlib.Core.Bool.{Bool, true}
+use mathlib.Core.Logic.{_↔_}
+use mathlib.Core.Bool.{Bool, true, false}
 use lib.Dec.{eqb}
 use borrow.Author.Tests.{eqb-true, eq-eqb}
-use Rattle.model.specs.Tests.{Decides}
+use Rattle.model.specs.Tests.{pick, Decides, pick-ind}
 use Rattle.model.specs.Levels.{Env, within, within-is, sameStatus, same-status-is}
 use Rattle.model.specs.Records.{bySingle, by-singles}
 use Rattle.model.specs.Table.{Table}
@@ -41,6 +43,10 @@ simpleNumber (Protect d s) = 11
 simpleNumber (LoadFixed d a i) = 0
 simpleNumber (StoreFixed a i s) = 0
 
+-- the number of the fault that a simple record has in an environment, or 0: the one answer that says both
+abbrev pub faultOf : Simple → Env → ℕ
+faultOf s E = pick (meets s E) 0 (simpleNumber s)
+
 -- 13: not within the callee's in. The records of blocks have 10, 12 and 14 by the walk
 abbrev pub numberOf : Record → ℕ
 numberOf = bySingle simpleNumber (λ f m. 13) 0
@@ -62,6 +68,30 @@ meets-is (Update r s) E = same-status-is (E .status) (Outdated r s)
 meets-is (Protect d s) E = same-status-is (E .status) Updated
 meets-is (LoadFixed d a i) E = asks-nothing
 meets-is (StoreFixed a i s) E = asks-nothing
+
+-- what can fail has a number that is not 0
+sure : (b : Bool) (n : ℕ) → (n ≡ 0 → ⊥) → pick b 0 n ≡ 0 → b ≡ true
+sure true n h e = refl
+sure false n h e = absurd (h e)
+
+pub fault-met : (s : Simple) (E : Env) → faultOf s E ≡ 0 → meets s E ≡ true
+fault-met (Const d v) E e = refl
+fault-met (Op d o l r) E e = refl
+fault-met (Select d c y n) E e = refl
+fault-met (Load d a i) E e = sure (eqb (E .regs i) 0) 10 (λ h. omega (arith, h)) e
+fault-met (Store a i s) E e = sure (eqb (E .regs i) 0) 10 (λ h. omega (arith, h)) e
+fault-met Init E e = refl
+fault-met (Update r s) E e = sure (sameStatus (E .status) (Outdated r s)) 11 (λ h. omega (arith, h)) e
+fault-met (Protect d s) E e = sure (sameStatus (E .status) Updated) 11 (λ h. omega (arith, h)) e
+fault-met (LoadFixed d a i) E e = refl
+fault-met (StoreFixed a i s) E e = refl
+
+-- faultOf is 0 exactly where the record has what it asks, and else its number
+pub fault-none : (s : Simple) (E : Env) → (faultOf s E ≡ 0) ↔ Needs s E
+fault-none s E = (λ e. meets-is s E .0 (fault-met s E e), λ n. rw (meets-is s E .1 n) refl)
+
+pub fault-some : (s : Simple) (E : Env) → (Needs s E → ⊥) → faultOf s E ≡ numberOf (Do s)
+fault-some s E f = pick-ind (λ n. n ≡ simpleNumber s) (meets s E) (λ e. absurd (f (meets-is s E .0 e))) (λ _. refl)
 
 module _ (t : Table) where
   abbrev pub meetsOf : Record → Env → Bool

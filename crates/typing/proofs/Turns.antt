@@ -14,7 +14,7 @@ use Rattle.model.specs.Rules.{after, returned, guarded, typing}
 use Rattle.model.specs.Typing.{typeFrom, onPass}
 use Rattle.model.specs.Whole.{Whole, Where, guarded-whole, record-whole, block-whole}
 use Rattle.model.specs.Walk.{Walked as Walking, Next as Onward, Shut as Closed, Fault as Halt, onNext, onShut, instrWith, blockWith, inside, instr-at, functionAt}
-use Rattle.model.specs.Decide.{meets, simpleNumber, typingTests}
+use Rattle.model.specs.Decide.{meets, simpleNumber, faultOf, fault-met, typingTests}
 use Rattle.model.specs.declared.Sizes.{Sizes}
 use Rattle.model.specs.declared.Packed.{Packed}
 use Rattle.model.specs.declared.Simple.{Simple}
@@ -40,12 +40,16 @@ arrived w h e = sym h ∙ seen w e
 pub halts : (w : Walk) {n p : ℕ} → w .to ≡ Fault n p → viewWalk w ≡ Halt n p
 halts w e = ap (λ (x : Walked). going x (viewEnv (w .env))) e
 
--- a simple record
-pub simple-on : (z : Sizes) (s : Simple) (at next : ℕ) (E : Environment) {F : Environment} → meets s E ≡ true → F ≡ after (z .arrays) s E → Onward next F ≡ simpleWalk z s at next E
-simple-on z s at next E {F} m f = subst (λ (b : Bool). Onward next F ≡ pick b (Onward next (after (z .arrays) s E)) (Halt (simpleNumber s) at)) (sym m) (ap (Onward next) f)
+-- a simple record, by the number of its fault
+pub simple-on : (z : Sizes) (s : Simple) (at next : ℕ) (E : Environment) {n : ℕ} {F : Environment} → n ≡ faultOf s E → n ≡ 0 → F ≡ after (z .arrays) s E → Onward next F ≡ simpleWalk z s at next E
+simple-on z s at next E {n} {F} e o f = subst (λ (b : Bool). Onward next F ≡ pick b (Onward next (after (z .arrays) s E)) (Halt (simpleNumber s) at)) (sym (fault-met s E (sym e ∙ o))) (ap (Onward next) f)
 
-pub simple-out : (z : Sizes) (s : Simple) (at next : ℕ) (E : Environment) {n : ℕ} → meets s E ≡ false → n ≡ simpleNumber s → Halt n at ≡ simpleWalk z s at next E
-simple-out z s at next E {n} m f = subst (λ (b : Bool). Halt n at ≡ pick b (Onward next (after (z .arrays) s E)) (Halt (simpleNumber s) at)) (sym m) (ap (λ (k : ℕ). Halt k at) f)
+pub simple-out : (z : Sizes) (s : Simple) (at next : ℕ) (E : Environment) {n : ℕ} → n ≡ faultOf s E → (n ≡ 0 → ⊥) → Halt n at ≡ simpleWalk z s at next E
+simple-out z s at next E {n} e h = go (meets s E) e
+  where
+    go : (b : Bool) → n ≡ pick b 0 (simpleNumber s) → Halt n at ≡ pick b (Onward next (after (z .arrays) s E)) (Halt (simpleNumber s) at)
+    go true q = absurd (h q)
+    go false q = ap (λ (k : ℕ). Halt k at) q
 
 -- what holds where a walk shut
 pub at-shut : (P : Environment → Type 0) (w : Walk) {p : ℕ} → w .to ≡ Shut p → Where P (viewWalk w) → P (viewEnv (w .env))

@@ -6,11 +6,16 @@ use Rattle.model.specs.Levels.{Env as Environment}
 use Rattle.model.specs.Packing.{slot, envOf}
 use Rattle.model.specs.Whole.{Whole}
 use Rattle.model.specs.declared.Sizes.{Sizes}
+use Rattle.model.specs.declared.Status.{Status}
 use Rattle.format.specs.Layout.{inOf, outOf}
 use Rattle.typing.specs.declared.Env.{Env}
 
+-- .. of a status, and of two packed words
+abbrev pub envFrom : Status → ℕ → ℕ → Environment
+envFrom s r a = record { status = s; regs = slot r; arrays = slot a }
+
 abbrev pub viewEnv : Env → Environment
-viewEnv e = record { status = e .status; regs = slot (e .registers); arrays = slot (e .arrays) }
+viewEnv e = envFrom (e .status) (e .registers) (e .arrays)
 
 -- no slot is 3, and the slots that the table does not use are 0
 abbrev pub Fit : Sizes → Environment → Type 0

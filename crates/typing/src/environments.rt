@@ -10,7 +10,7 @@ ghost use Rattle.model.specs.Levels.{joinStatus, sameStatus, covers, join, with
 ghost use Rattle.model.specs.Packing.{statusOf, envOf};
 ghost use Rattle.model.specs.Rules.{kill, guardStatus, callStatus, guarded, returned};
 ghost use Rattle.model.specs.Whole.{Whole, NoThrees};
-ghost use Rattle.typing.specs.Envs.{viewEnv};
+ghost use Rattle.typing.specs.Envs.{envFrom, viewEnv};
 
 // Equal statuses.
 pub(crate) fn same_status(a: Status, b: Status) -> bool
@@ -20,12 +20,12 @@ pub(crate) fn same_status(a: Status, b: Status) -> bool
         Status::Unknown => match b {
             Status::Unknown => true,
             Status::Updated => false,
-            Status::Outdated(q, c) => false,
+            Status::Outdated(..) => false,
         },
         Status::Updated => match b {
             Status::Unknown => false,
             Status::Updated => true,
-            Status::Outdated(q, c) => false,
+            Status::Outdated(..) => false,
         },
         Status::Outdated(r, s) => match b {
             Status::Unknown => false,
@@ -53,7 +53,7 @@ fn covers_status(a: Status, b: Status) -> bool
     match b {
         Status::Unknown => true,
         Status::Updated => same_status(a, b),
-        Status::Outdated(q, c) => same_status(a, b),
+        Status::Outdated(..) => same_status(a, b),
     }
 }
 
@@ -88,7 +88,7 @@ fn guard_status(r: u8, s: bool, a: Status) -> Status
     match a {
         Status::Unknown => Status::Unknown,
         Status::Updated => Status::Outdated(r, s),
-        Status::Outdated(q, c) => Status::Unknown,
+        Status::Outdated(..) => Status::Unknown,
     }
 }
 
@@ -101,7 +101,7 @@ fn call_status(mark: bool, a: Status) -> Status
     match a {
         Status::Unknown => Status::Unknown,
         Status::Updated => Status::Updated,
-        Status::Outdated(r, s) => Status::Unknown,
+        Status::Outdated(..) => Status::Unknown,
     }
 }
 
@@ -114,18 +114,22 @@ fn status_of(b: u8) -> Status
     Status::Unknown
 }
 
-// What seven bytes mean: the two words go over as they are.
-pub(crate) fn env_of(p: Packed) -> Env
-    ensures { λ r. ⌜ viewEnv r ≡ envOf p ⌝ }
+// Makes an environment of a status and the packed levels of registers and arrays. No other function writes an `Env` down.
+pub(crate) fn env_from(status: Status, registers: u32, arrays: u32) -> Env
+    ensures { λ r. ⌜ viewEnv r ≡ envFrom status registers arrays ⌝ }
 {
-    let status = status_of(p.status);
-    let registers = p.registers;
-    let arrays = p.arrays;
     Env {
         status,
         registers,
         arrays,
     }
+}
+
+// What seven bytes mean: the two words go over as they are.
+pub(crate) fn env_of(p: Packed) -> Env
+    ensures { λ r. ⌜ viewEnv r ≡ envOf p ⌝ }
+{
+    env_from(status_of(p.status), p.registers, p.arrays)
 }
 
 // e is within f, over any number of slots that both keep to.
@@ -153,11 +157,7 @@ pub(crate) fn join_envs(e: Env, f: Env) -> Env
     let status = join_status(s, u);
     let registers = join_levels(e.registers, f.registers);
     let arrays = join_levels(e.arrays, f.arrays);
-    Env {
-        status,
-        registers,
-        arrays,
-    }
+    env_from(status, registers, arrays)
 }
 
 // Entering a block on register r, which is not zero (true) or zero (false).
@@ -165,14 +165,7 @@ pub(crate) fn guarded_env(e: Env, r: u8, s: bool) -> Env
     ensures { λ x. ⌜ viewEnv x ≡ guarded (viewEnv e) r s ⌝ }
 {
     let u = e.status;
-    let status = guard_status(r, s, u);
-    let registers = e.registers;
-    let arrays = e.arrays;
-    Env {
-        status,
-        registers,
-        arrays,
-    }
+    env_from(guard_status(r, s, u), e.registers, e.arrays)
 }
 
 // After a CALL: the callee's out levels.
@@ -180,12 +173,5 @@ pub(crate) fn returned_env(out: Env, mark: bool, e: Env) -> Env
     ensures { λ x. ⌜ viewEnv x ≡ returned (viewEnv out) mark (viewEnv e) ⌝ }
 {
     let u = out.status;
-    let status = call_status(mark, u);
-    let registers = out.registers;
-    let arrays = out.arrays;
-    Env {
-        status,
-        registers,
-        arrays,
-    }
+    env_from(call_status(mark, u), out.registers, out.arrays)
 }

@@ -1,5 +1,6 @@
 // The rules for single records: what a record asks of the environment, and the environment after it.
 use crate::Env;
+use crate::environments::env_from;
 use crate::environments::killed;
 use crate::environments::same_status;
 use levels::join_levels;
@@ -15,11 +16,12 @@ use model::Status;
 ghost use mathlib.Core.Path.{_≡_};
 ghost use Prim.Native.Nat.{_<_, _≤_, max};
 ghost use lib.Dec.{eqb};
-ghost use Rattle.model.specs.Decide.{meets, simpleNumber};
+ghost use Rattle.model.specs.Decide.{faultOf};
 ghost use Rattle.model.specs.Levels.{sameStatus};
 ghost use Rattle.model.specs.Packing.{slot};
 ghost use Rattle.model.specs.Records.{SimpleFits};
 ghost use Rattle.model.specs.Rules.{beside, written, raised, stored, storedFixed, fenced, updated, protected, after};
+ghost use Rattle.model.specs.Tests.{pick};
 ghost use Rattle.model.specs.Whole.{NoThrees};
 ghost use Rattle.model.specs.Words.{NoThree};
 ghost use Rattle.typing.specs.Envs.{viewEnv, Small};
@@ -31,82 +33,42 @@ pub(crate) fn is_public(e: Env, i: u8) -> bool
     level(e.registers, i) == 0
 }
 
-fn has_status(e: Env, s: Status) -> bool
-    ensures { λ r. ⌜ r ≡ sameStatus (viewEnv e .status) s ⌝ }
+// 10 where register i, an index, is not public.
+fn index_fault(e: Env, i: u8) -> u8
+    ensures { λ r. ⌜ r ≡ pick (eqb (viewEnv e .regs i) 0) 0 10 ⌝ }
+{
+    if is_public(e, i) {
+        return 0;
+    }
+    10
+}
+
+// 11 where the status is not s.
+fn status_fault(e: Env, s: Status) -> u8
+    ensures { λ r. ⌜ r ≡ pick (sameStatus (viewEnv e .status) s) 0 11 ⌝ }
 {
     let a = e.status;
-    same_status(a, s)
-}
-
-// The environment gives a simple record what it asks.
-pub(crate) fn is_met(s: Simple, e: Env) -> bool
-    ensures { λ r. ⌜ r ≡ meets s (viewEnv e) ⌝ }
-{
-    match s {
-        Simple::Const { dest, value } => true,
-        Simple::Op {
-            dest,
-            op,
-            left,
-            right,
-        } => true,
-        Simple::Select {
-            dest,
-            cond,
-            yes,
-            no,
-        } => true,
-        Simple::Load { dest, array, index } => is_public(e, index),
-        Simple::Store {
-            array,
-            index,
-            source,
-        } => is_public(e, index),
-        Simple::Init => true,
-        Simple::Update { register, sense } => has_status(e, Status::Outdated(register, sense)),
-        Simple::Protect { dest, source } => has_status(e, Status::Updated),
-        Simple::LoadFixed { dest, array, index } => true,
-        Simple::StoreFixed {
-            array,
-            index,
-            source,
-        } => true,
+    if same_status(a, s) {
+        return 0;
     }
+    11
 }
 
-// The number of a simple record's fault; 0 where it has none.
-pub(crate) fn number_of(s: Simple) -> u8
-    ensures { λ r. ⌜ r ≡ simpleNumber s ⌝ }
+// The number of a simple record's fault; 0 where the environment gives it what it asks.
+pub(crate) fn fault_of(s: Simple, e: Env) -> u8
+    ensures { λ r. ⌜ r ≡ faultOf s (viewEnv e) ⌝ }
 {
     match s {
-        Simple::Const { dest, value } => 0,
-        Simple::Op {
-            dest,
-            op,
-            left,
-            right,
-        } => 0,
-        Simple::Select {
-            dest,
-            cond,
-            yes,
-            no,
-        } => 0,
-        Simple::Load { dest, array, index } => 10,
-        Simple::Store {
-            array,
-            index,
-            source,
-        } => 10,
+        Simple::Const { .. } => 0,
+        Simple::Op { .. } => 0,
+        Simple::Select { .. } => 0,
+        Simple::Load { index, .. } => index_fault(e, index),
+        Simple::Store { index, .. } => index_fault(e, index),
         Simple::Init => 0,
-        Simple::Update { register, sense } => 11,
-        Simple::Protect { dest, source } => 11,
-        Simple::LoadFixed { dest, array, index } => 0,
-        Simple::StoreFixed {
-            array,
-            index,
-            source,
-        } => 0,
+        Simple::Update { register, sense } => status_fault(e, Status::Outdated(register, sense)),
+        Simple::Protect { .. } => status_fault(e, Status::Updated),
+        Simple::LoadFixed { .. } => 0,
+        Simple::StoreFixed { .. } => 0,
     }
 }
 
@@ -117,13 +79,7 @@ fn written_env(e: Env, d: u8, l: u8) -> Env
 {
     let registers = with_level(e.registers, d, l);
     let s = e.status;
-    let status = killed(d, s);
-    let arrays = e.arrays;
-    Env {
-        status,
-        registers,
-        arrays,
-    }
+    env_from(killed(d, s), registers, e.arrays)
 }
 
 fn after_op(e: Env, dest: u8, left: u8, right: u8) -> Env
@@ -169,15 +125,10 @@ fn raised_env(e: Env, others: u32, array: u8, source: u8) -> Env
     requires { ⌜ array < 16 ⌝ }
     ensures { λ r. ⌜ viewEnv r ≡ raised (viewEnv e) (slot others) array (viewEnv e .regs source) ⌝ }
 {
-    let registers = e.registers;
-    let named = larger(level(e.arrays, array), level(registers, source));
+    let named = larger(level(e.arrays, array), level(e.registers, source));
     let arrays = with_level(others, array, named);
     let status = e.status;
-    Env {
-        status,
-        registers,
-        arrays,
-    }
+    env_from(status, e.registers, arrays)
 }
 
 // The levels of so many arrays beside one into which level l is stored: what was public becomes transient, unless l is public.
@@ -216,23 +167,13 @@ fn after_init(e: Env) -> Env
 {
     let registers = settle_levels(e.registers);
     let arrays = settle_levels(e.arrays);
-    Env {
-        status: Status::Updated,
-        registers,
-        arrays,
-    }
+    env_from(Status::Updated, registers, arrays)
 }
 
 fn after_update(e: Env) -> Env
     ensures { λ r. ⌜ viewEnv r ≡ updated (viewEnv e) ⌝ }
 {
-    let registers = e.registers;
-    let arrays = e.arrays;
-    Env {
-        status: Status::Updated,
-        registers,
-        arrays,
-    }
+    env_from(Status::Updated, e.registers, e.arrays)
 }
 
 fn after_protect(e: Env, dest: u8, source: u8) -> Env
@@ -241,12 +182,7 @@ fn after_protect(e: Env, dest: u8, source: u8) -> Env
 {
     let a = e.registers;
     let registers = with_level(a, dest, settled(level(a, source)));
-    let arrays = e.arrays;
-    Env {
-        status: Status::Updated,
-        registers,
-        arrays,
-    }
+    env_from(Status::Updated, registers, e.arrays)
 }
 
 // The environment after a simple record whose fields are in range.
@@ -255,12 +191,12 @@ pub(crate) fn after_simple(z: Sizes, s: Simple, e: Env) -> Env
     ensures { λ r. ⌜ viewEnv r ≡ after (z .arrays) s (viewEnv e) ⌝ }
 {
     match s {
-        Simple::Const { dest, value } => written_env(e, dest, 0),
+        Simple::Const { dest, .. } => written_env(e, dest, 0),
         Simple::Op {
             dest,
-            op,
             left,
             right,
+            ..
         } => after_op(e, dest, left, right),
         Simple::Select {
             dest,
@@ -268,20 +204,12 @@ pub(crate) fn after_simple(z: Sizes, s: Simple, e: Env) -> Env
             yes,
             no,
         } => after_select(e, dest, cond, yes, no),
-        Simple::Load { dest, array, index } => after_load(e, dest, array),
-        Simple::Store {
-            array,
-            index,
-            source,
-        } => after_store(z, e, array, source),
+        Simple::Load { dest, array, .. } => after_load(e, dest, array),
+        Simple::Store { array, source, .. } => after_store(z, e, array, source),
         Simple::Init => after_init(e),
-        Simple::Update { register, sense } => after_update(e),
+        Simple::Update { .. } => after_update(e),
         Simple::Protect { dest, source } => after_protect(e, dest, source),
-        Simple::LoadFixed { dest, array, index } => after_load_fixed(e, dest, array),
-        Simple::StoreFixed {
-            array,
-            index,
-            source,
-        } => after_store_fixed(e, array, source),
+        Simple::LoadFixed { dest, array, .. } => after_load_fixed(e, dest, array),
+        Simple::StoreFixed { array, source, .. } => after_store_fixed(e, array, source),
     }
 }

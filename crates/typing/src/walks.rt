@@ -8,9 +8,8 @@ use crate::environments::guarded_env;
 use crate::environments::join_envs;
 use crate::environments::returned_env;
 use crate::rules::after_simple;
-use crate::rules::is_met;
+use crate::rules::fault_of;
 use crate::rules::is_public;
-use crate::rules::number_of;
 use format::Decoded;
 use model::Packed;
 use model::Record;
@@ -35,7 +34,8 @@ fn simple(z: Sizes, s: Simple, at: usize, next: usize, e: Env) -> Walk
     requires { ⌜ Small z × SimpleFits (z .registers) (z .arrays) s × NoThrees (viewEnv e) ⌝ }
     ensures { λ r. ⌜ viewWalk r ≡ simpleWalk z s at next (viewEnv e) ⌝ }
 {
-    if is_met(s, e) {
+    let n = fault_of(s, e);
+    if n == 0 {
         let env = after_simple(z, s, e);
         return Walk {
             to: Walked::Next(next),
@@ -43,7 +43,7 @@ fn simple(z: Sizes, s: Simple, at: usize, next: usize, e: Env) -> Walk
         };
     }
     Walk {
-        to: Walked::Fault(number_of(s), at),
+        to: Walked::Fault(n, at),
         env: e,
     }
 }

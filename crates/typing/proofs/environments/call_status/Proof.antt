@@ -16,8 +16,8 @@ enum-told c = search needs
 enum-told-2 : tie.Need-enum-told-2
 enum-told-2 c = search needs
 
-enum-known-a : tie.Need-enum-known-a
-enum-known-a c = search needs
+enum-told-3 : tie.Need-enum-told-3
+enum-told-3 c = search needs
 
 returns-2 : tie.Need-returns-2
 unfolding callStatus
@@ -29,8 +29,8 @@ returns-3 c = simp (not-false (c .before .before .before .args .mark) (c .before
 
 returns-4 : tie.Need-returns-4
 unfolding callStatus
-returns-4 c = simp (not-false (c .before .before .before .before .args .mark) (c .before .before .before .if1 .left), c .before .a .given .1)
+returns-4 c = simp (not-false (c .before .before .before .args .mark) (c .before .before .if1 .left), c .enum-told3 .given .1)
 
 pub call-status-spec : {M : Type 1} → statement M
 call-status-spec =
-    tie.close (tie.spec returns enum-told enum-told-2 enum-known-a returns-2 returns-3 returns-4)
+    tie.close (tie.spec returns enum-told enum-told-2 enum-told-3 returns-2 returns-3 returns-4)

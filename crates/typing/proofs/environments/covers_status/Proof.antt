@@ -14,8 +14,8 @@ enum-told-2 c = search needs
 same-status-requires : tie.Need-same-status-requires
 same-status-requires c κs = search needs
 
-enum-known-b : tie.Need-enum-known-b
-enum-known-b c = search needs
+enum-told-3 : tie.Need-enum-told-3
+enum-told-3 c = search needs
 
 same-status-requires-2 : tie.Need-same-status-requires-2
 same-status-requires-2 c κs = search needs
@@ -27,7 +27,7 @@ returns-2 : tie.Need-returns-2
 returns-2 c = simp (c .same-status .ensures, c .before .enum-told2 .given .1)
 
 returns-3 : tie.Need-returns-3
-returns-3 c = simp (c .same-status2 .ensures, c .before .before .b .given .1)
+returns-3 c = simp (c .same-status2 .ensures, c .before .enum-told3 .given .1)
 
 pub covers-status-spec : {M : Type 1} → statement M
 covers-status-spec =
@@ -36,7 +36,7 @@ covers-status-spec =
     enum-told
     enum-told-2
     same-status-requires
-    enum-known-b
+    enum-told-3
     same-status-requires-2
     returns
     returns-2

@@ -1,16 +1,20 @@
-use mathlib.Core.Path.{refl}
+use mathlib.Core.Path.{refl, _∙_}
 use borrow.Author.Needs.{needs}
 use Rattle.typing.proofs.environments.env_of.Statement.{statement}
 use Rattle.typing.proofs.environments.env_of.Tie as tie
 use Rattle.typing.proofs.environments.env_of.Reads as reads
 use Rattle.typing.proofs.environments.env_of.Lts as lts
+use Rattle.typing.proofs.environments.env_from.Reads as env-from-reads
 use Rattle.typing.proofs.environments.status_of.Reads as status-of-reads
 
 status-of-requires : tie.Need-status-of-requires
 status-of-requires c κs = search needs
 
+env-from-requires : tie.Need-env-from-requires
+env-from-requires c κs = search needs
+
 returns : tie.Need-returns
-returns c = rw (c .status-of .ensures) refl
+returns c = c .env-from .ensures ∙ rw (c .before .status-of .ensures) refl
 
 pub env-of-spec : {M : Type 1} → statement M
-env-of-spec = tie.close (tie.spec status-of-requires returns)
+env-of-spec = tie.close (tie.spec status-of-requires env-from-requires returns)

@@ -11,8 +11,8 @@ enum-told c = search needs
 enum-told-2 : tie.Need-enum-told-2
 enum-told-2 c = search needs
 
-enum-known-a : tie.Need-enum-known-a
-enum-known-a c = search needs
+enum-told-3 : tie.Need-enum-told-3
+enum-told-3 c = search needs
 
 returns : tie.Need-returns
 unfolding guardStatus
@@ -24,8 +24,8 @@ returns-2 c = simp (c .enum-told2 .given .1)
 
 returns-3 : tie.Need-returns-3
 unfolding guardStatus
-returns-3 c = simp (c .before .a .given .1)
+returns-3 c = simp (c .enum-told3 .given .1)
 
 pub guard-status-spec : {M : Type 1} → statement M
 guard-status-spec =
-    tie.close (tie.spec enum-told enum-told-2 enum-known-a returns returns-2 returns-3)
+    tie.close (tie.spec enum-told enum-told-2 enum-told-3 returns returns-2 returns-3)

@@ -15,9 +15,6 @@ enum-told-2 c = search needs
 enum-told-3 : tie.Need-enum-told-3
 enum-told-3 c = search needs
 
-enum-known-b : tie.Need-enum-known-b
-enum-known-b c = search needs
-
 enum-told-4 : tie.Need-enum-told-4
 enum-told-4 c = search needs
 
@@ -27,20 +24,23 @@ enum-told-5 c = search needs
 enum-told-6 : tie.Need-enum-told-6
 enum-told-6 c = search needs
 
-enum-known-b-2 : tie.Need-enum-known-b-2
-enum-known-b-2 c = search needs
-
-enum-known-a : tie.Need-enum-known-a
-enum-known-a c = search needs
-
 enum-told-7 : tie.Need-enum-told-7
 enum-told-7 c = search needs
 
 enum-told-8 : tie.Need-enum-told-8
 enum-told-8 c = search needs
 
-enum-known-b-3 : tie.Need-enum-known-b-3
-enum-known-b-3 c = search needs
+enum-known-a : tie.Need-enum-known-a
+enum-known-a c = search needs
+
+enum-told-9 : tie.Need-enum-told-9
+enum-told-9 c = search needs
+
+enum-told-10 : tie.Need-enum-told-10
+enum-told-10 c = search needs
+
+enum-known-b : tie.Need-enum-known-b
+enum-known-b c = search needs
 
 same-guard-requires : tie.Need-same-guard-requires
 same-guard-requires c κs = search needs
@@ -55,30 +55,30 @@ returns-2 c = simp (c .enum-told3 .given .1, c .before .before .enum-told .given
 
 returns-3 : tie.Need-returns-3
 unfolding sameStatus
-returns-3 c = simp (c .before .b .given .1, c .before .before .before .enum-told .given .1)
+returns-3 c = simp (c .enum-told4 .given .1, c .before .before .enum-told .given .1)
 
 returns-4 : tie.Need-returns-4
 unfolding sameStatus
-returns-4 c = simp (c .enum-told5 .given .1, c .before .before .enum-told4 .given .1)
+returns-4 c = simp (c .enum-told6 .given .1, c .before .before .enum-told5 .given .1)
 
 returns-5 : tie.Need-returns-5
 unfolding sameStatus
-returns-5 c = simp (c .enum-told6 .given .1, c .before .before .enum-told4 .given .1)
+returns-5 c = simp (c .enum-told7 .given .1, c .before .before .enum-told5 .given .1)
 
 returns-6 : tie.Need-returns-6
 unfolding sameStatus
-returns-6 c = simp (c .before .b2 .given .1, c .before .before .before .enum-told4 .given .1)
+returns-6 c = simp (c .enum-told8 .given .1, c .before .before .enum-told5 .given .1)
 
 returns-7 : tie.Need-returns-7
 unfolding sameStatus
-returns-7 c = simp (c .enum-told7 .given .1, c .before .before .before .a .given .1)
+returns-7 c = simp (c .enum-told9 .given .1, c .before .before .before .a .given .1)
 
 returns-8 : tie.Need-returns-8
 unfolding sameStatus
-returns-8 c = simp (c .enum-told8 .given .1, c .before .before .before .a .given .1)
+returns-8 c = simp (c .enum-told10 .given .1, c .before .before .before .a .given .1)
 
 returns-9 : tie.Need-returns-9
-returns-9 c = simp (c .before .before .b3 .given .1, c .before .before .before .before .before .a .given .1) (c .same-guard .ensures)
+returns-9 c = simp (c .before .before .b .given .1, c .before .before .before .before .before .a .given .1) (c .same-guard .ensures)
 
 pub same-status-spec : {M : Type 1} → statement M
 same-status-spec =
@@ -87,15 +87,15 @@ same-status-spec =
     enum-told
     enum-told-2
     enum-told-3
-    enum-known-b
     enum-told-4
     enum-told-5
     enum-told-6
-    enum-known-b-2
-    enum-known-a
     enum-told-7
     enum-told-8
-    enum-known-b-3
+    enum-known-a
+    enum-told-9
+    enum-told-10
+    enum-known-b
     same-guard-requires
     returns
     returns-2

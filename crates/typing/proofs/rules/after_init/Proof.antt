@@ -1,4 +1,5 @@
 use native.Mathlib.Omega.{arith}
+use mathlib.Core.Path.{_∙_}
 use Rattle.model.specs.declared.Status.the-variants.{Updated}
 use Rattle.typing.proofs.Packed.{settle-slots}
 use borrow.Author.Needs.{needs}
@@ -7,6 +8,7 @@ use Rattle.typing.proofs.rules.after_init.Tie as tie
 use Rattle.typing.proofs.rules.after_init.Reads as reads
 use Rattle.typing.proofs.rules.after_init.Lts as lts
 use Rattle.levels.proofs.settle_levels.Reads as settle-levels-reads
+use Rattle.typing.proofs.environments.env_from.Reads as env-from-reads
 
 settle-levels-requires : tie.Need-settle-levels-requires
 settle-levels-requires c κs = search needs
@@ -14,12 +16,15 @@ settle-levels-requires c κs = search needs
 settle-levels-requires-2 : tie.Need-settle-levels-requires-2
 settle-levels-requires-2 c κs = search needs
 
+env-from-requires : tie.Need-env-from-requires
+env-from-requires c κs = search needs
+
 returns : tie.Need-returns
 returns c =
-    let b = c .before .before in
-    let regs = settle-slots (b .args .e .registers) (omega arith) (b .pre .0) (c .before .settle-levels .ensures) in
-    let arrays = settle-slots (b .args .e .arrays) (omega arith) (b .pre .1) (c .settle-levels2 .ensures) in
-    λ i. record { status = Updated; regs = regs i; arrays = arrays i }
+    let b = c .before .before .before in
+    let regs = settle-slots (b .args .e .registers) (omega arith) (b .pre .0) (c .before .before .settle-levels .ensures) in
+    let arrays = settle-slots (b .args .e .arrays) (omega arith) (b .pre .1) (c .before .settle-levels2 .ensures) in
+    c .env-from .ensures ∙ (λ i. record { status = Updated; regs = regs i; arrays = arrays i })
 
 pub after-init-spec : {M : Type 1} → statement M
-after-init-spec = tie.close (tie.spec settle-levels-requires settle-levels-requires-2 returns)
+after-init-spec = tie.close (tie.spec settle-levels-requires settle-levels-requires-2 env-from-requires returns)

@@ -1,4 +1,5 @@
 use Prim.Native.Nat.{_<_}
+use mathlib.Core.Path.{_∙_}
 use Rattle.model.specs.Packing.{slot}
 use Rattle.model.specs.declared.Status.the-variants.{Updated}
 use Rattle.typing.proofs.Packed.{settle-small, put-slot}
@@ -10,6 +11,7 @@ use Rattle.typing.proofs.rules.after_protect.Lts as lts
 use Rattle.levels.proofs.level.Reads as level-reads
 use Rattle.levels.proofs.settled.Reads as settled-reads
 use Rattle.levels.proofs.with_level.Reads as with-level-reads
+use Rattle.typing.proofs.environments.env_from.Reads as env-from-reads
 
 level-requires : tie.Need-level-requires
 level-requires c κs = search needs
@@ -20,14 +22,17 @@ settled-requires c κs = search needs
 with-level-requires : tie.Need-with-level-requires
 with-level-requires c κs = search needs
 
+env-from-requires : tie.Need-env-from-requires
+env-from-requires c κs = search needs
+
 returns : tie.Need-returns
 returns c =
-    let a = c .before .before .before .args in
-    let v : c .before .settled .result < 4 = rw (c .before .settled .ensures, c .before .before .level .ensures) (settle-small (a .e .registers) (a .source)) in
-    let w = put-slot (a .e .registers) (a .dest) (c .before .settled .result) (c .before .before .before .pre) v (c .with-level .ensures) in
-    let p = simp (c .before .settled .ensures, c .before .before .level .ensures) at w in
-    λ i. record { status = Updated; regs = p i; arrays = slot (a .e .arrays) }
+    let a = c .before .before .before .before .args in
+    let v : c .before .before .settled .result < 4 = rw (c .before .before .settled .ensures, c .before .before .before .level .ensures) (settle-small (a .e .registers) (a .source)) in
+    let w = put-slot (a .e .registers) (a .dest) (c .before .before .settled .result) (c .before .before .before .before .pre) v (c .before .with-level .ensures) in
+    let p = simp (c .before .before .settled .ensures, c .before .before .before .level .ensures) at w in
+    c .env-from .ensures ∙ (λ i. record { status = Updated; regs = p i; arrays = slot (a .e .arrays) })
 
 pub after-protect-spec : {M : Type 1} → statement M
 after-protect-spec =
-    tie.close (tie.spec level-requires settled-requires with-level-requires returns)
+    tie.close (tie.spec level-requires settled-requires with-level-requires env-from-requires returns)

@@ -68,17 +68,26 @@ enum-told c = search needs
 after-init-requires : tie.Need-after-init-requires
 after-init-requires c κs = search needs
 
-enum-known-s-6 : tie.Need-enum-known-s-6
-enum-known-s-6 c = search needs
+enum-told-2 : tie.Need-enum-told-2
+enum-told-2 c = search needs
 
 after-update-requires : tie.Need-after-update-requires
 after-update-requires c κs = search needs
 
-enum-known-s-7 : tie.Need-enum-known-s-7
-enum-known-s-7 c = search needs
+enum-known-s-6 : tie.Need-enum-known-s-6
+enum-known-s-6 c = search needs
 
 after-protect-requires : tie.Need-after-protect-requires
 after-protect-requires c κs =
+    let small = c .before .before .before .pre .0 in
+    let f = subst (SimpleFits (c .before .before .before .args .z .registers) (c .before .before .before .args .z .arrays)) (c .before .s6 .given .1) (c .before .before .before .pre .1) in
+    omega (arith, f .0, small .registers)
+
+enum-known-s-7 : tie.Need-enum-known-s-7
+enum-known-s-7 c = search needs
+
+after-load-fixed-requires : tie.Need-after-load-fixed-requires
+after-load-fixed-requires c κs =
     let small = c .before .before .before .pre .0 in
     let f = subst (SimpleFits (c .before .before .before .args .z .registers) (c .before .before .before .args .z .arrays)) (c .before .s7 .given .1) (c .before .before .before .pre .1) in
     omega (arith, f .0, small .registers)
@@ -86,19 +95,10 @@ after-protect-requires c κs =
 enum-known-s-8 : tie.Need-enum-known-s-8
 enum-known-s-8 c = search needs
 
-after-load-fixed-requires : tie.Need-after-load-fixed-requires
-after-load-fixed-requires c κs =
-    let small = c .before .before .before .pre .0 in
-    let f = subst (SimpleFits (c .before .before .before .args .z .registers) (c .before .before .before .args .z .arrays)) (c .before .s8 .given .1) (c .before .before .before .pre .1) in
-    omega (arith, f .0, small .registers)
-
-enum-known-s-9 : tie.Need-enum-known-s-9
-enum-known-s-9 c = search needs
-
 after-store-fixed-requires : tie.Need-after-store-fixed-requires
 after-store-fixed-requires c κs =
     let small = c .before .before .before .pre .0 in
-    let f = subst (SimpleFits (c .before .before .before .args .z .registers) (c .before .before .before .args .z .arrays)) (c .before .s9 .given .1) (c .before .before .before .pre .1) in
+    let f = subst (SimpleFits (c .before .before .before .args .z .registers) (c .before .before .before .args .z .arrays)) (c .before .s8 .given .1) (c .before .before .before .pre .1) in
     omega (arith, f .0, small .arrays)
 
 returns : tie.Need-returns
@@ -120,16 +120,16 @@ returns-6 : tie.Need-returns-6
 returns-6 c = simp (c .before .enum-told .given .1) (c .after-init .ensures)
 
 returns-7 : tie.Need-returns-7
-returns-7 c = simp (c .before .before .s6 .given .1) (c .after-update .ensures)
+returns-7 c = simp (c .before .enum-told2 .given .1) (c .after-update .ensures)
 
 returns-8 : tie.Need-returns-8
-returns-8 c = simp (c .before .before .s7 .given .1) (c .after-protect .ensures)
+returns-8 c = simp (c .before .before .s6 .given .1) (c .after-protect .ensures)
 
 returns-9 : tie.Need-returns-9
-returns-9 c = simp (c .before .before .s8 .given .1) (c .after-load-fixed .ensures)
+returns-9 c = simp (c .before .before .s7 .given .1) (c .after-load-fixed .ensures)
 
 returns-10 : tie.Need-returns-10
-returns-10 c = simp (c .before .before .s9 .given .1) (c .after-store-fixed .ensures)
+returns-10 c = simp (c .before .before .s8 .given .1) (c .after-store-fixed .ensures)
 
 pub after-simple-spec : {M : Type 1} → statement M
 after-simple-spec =
@@ -147,13 +147,13 @@ after-simple-spec =
     after-store-requires
     enum-told
     after-init-requires
-    enum-known-s-6
+    enum-told-2
     after-update-requires
-    enum-known-s-7
+    enum-known-s-6
     after-protect-requires
-    enum-known-s-8
+    enum-known-s-7
     after-load-fixed-requires
-    enum-known-s-9
+    enum-known-s-8
     after-store-fixed-requires
     returns
     returns-2

@@ -1,4 +1,3 @@
-use mathlib.Core.Path.{sym, _∙_}
 use borrow.Author.Needs.{needs}
 use Rattle.typing.specs.Envs.{viewEnv}
 use Rattle.typing.proofs.Turns.{simple-on, simple-out}
@@ -7,11 +6,10 @@ use Rattle.typing.proofs.walks.simple.Tie as tie
 use Rattle.typing.proofs.walks.simple.Reads as reads
 use Rattle.typing.proofs.walks.simple.Lts as lts
 use Rattle.typing.proofs.rules.after_simple.Reads as after-simple-reads
-use Rattle.typing.proofs.rules.is_met.Reads as is-met-reads
-use Rattle.typing.proofs.rules.number_of.Reads as number-of-reads
+use Rattle.typing.proofs.rules.fault_of.Reads as fault-of-reads
 
-is-met-requires : tie.Need-is-met-requires
-is-met-requires c κs = search needs
+fault-of-requires : tie.Need-fault-of-requires
+fault-of-requires c κs = search needs
 
 after-simple-requires : tie.Need-after-simple-requires
 after-simple-requires c κs = search needs
@@ -19,16 +17,12 @@ after-simple-requires c κs = search needs
 returns : tie.Need-returns
 returns c =
     let a = c .before .before .before .args in
-    simple-on (a .z) (a .s) (a .at) (a .next) (viewEnv (a .e)) (sym (c .before .before .is-met .ensures) ∙ c .before .if1 .taken) (c .after-simple .ensures)
-
-number-of-requires : tie.Need-number-of-requires
-number-of-requires c κs = search needs
+    simple-on (a .z) (a .s) (a .at) (a .next) (viewEnv (a .e)) (c .before .before .fault-of .ensures) (c .before .if1 .taken) (c .after-simple .ensures)
 
 returns-2 : tie.Need-returns-2
 returns-2 c =
-    let a = c .before .before .before .args in
-    simple-out (a .z) (a .s) (a .at) (a .next) (viewEnv (a .e)) (sym (c .before .before .is-met .ensures) ∙ c .before .if1 .left) (c .number-of .ensures)
+    let a = c .before .before .args in
+    simple-out (a .z) (a .s) (a .at) (a .next) (viewEnv (a .e)) (c .before .fault-of .ensures) (c .if1 .left)
 
 pub simple-spec : {M : Type 1} → statement M
-simple-spec =
-    tie.close (tie.spec is-met-requires after-simple-requires returns number-of-requires returns-2)
+simple-spec = tie.close (tie.spec fault-of-requires after-simple-requires returns returns-2)

@@ -1,0 +1,108 @@
+use borrow.Author.Needs.{needs}
+use Rattle.typing.proofs.rules.fault_of.Statement.{statement}
+use Rattle.typing.proofs.rules.fault_of.Tie as tie
+use Rattle.typing.proofs.rules.fault_of.Reads as reads
+use Rattle.typing.proofs.rules.fault_of.Lts as lts
+use Rattle.typing.proofs.rules.index_fault.Reads as index-fault-reads
+use Rattle.typing.proofs.rules.status_fault.Reads as status-fault-reads
+
+enum-told : tie.Need-enum-told
+enum-told c = search needs
+
+enum-told-2 : tie.Need-enum-told-2
+enum-told-2 c = search needs
+
+enum-told-3 : tie.Need-enum-told-3
+enum-told-3 c = search needs
+
+enum-known-s : tie.Need-enum-known-s
+enum-known-s c = search needs
+
+index-fault-requires : tie.Need-index-fault-requires
+index-fault-requires c κs = search needs
+
+enum-known-s-2 : tie.Need-enum-known-s-2
+enum-known-s-2 c = search needs
+
+index-fault-requires-2 : tie.Need-index-fault-requires-2
+index-fault-requires-2 c κs = search needs
+
+enum-told-4 : tie.Need-enum-told-4
+enum-told-4 c = search needs
+
+enum-known-s-3 : tie.Need-enum-known-s-3
+enum-known-s-3 c = search needs
+
+status-fault-requires : tie.Need-status-fault-requires
+status-fault-requires c κs = search needs
+
+enum-told-5 : tie.Need-enum-told-5
+enum-told-5 c = search needs
+
+status-fault-requires-2 : tie.Need-status-fault-requires-2
+status-fault-requires-2 c κs = search needs
+
+enum-told-6 : tie.Need-enum-told-6
+enum-told-6 c = search needs
+
+enum-told-7 : tie.Need-enum-told-7
+enum-told-7 c = search needs
+
+returns : tie.Need-returns
+returns c = search needs
+
+returns-2 : tie.Need-returns-2
+returns-2 c = search needs
+
+returns-3 : tie.Need-returns-3
+returns-3 c = search needs
+
+returns-4 : tie.Need-returns-4
+returns-4 c = simp (c .index-fault .ensures, c .before .before .s .given .1)
+
+returns-5 : tie.Need-returns-5
+returns-5 c = simp (c .index-fault2 .ensures, c .before .before .s2 .given .1)
+
+returns-6 : tie.Need-returns-6
+returns-6 c = search needs
+
+returns-7 : tie.Need-returns-7
+returns-7 c = simp (c .status-fault .ensures, c .before .before .s3 .given .1)
+
+returns-8 : tie.Need-returns-8
+returns-8 c = simp (c .status-fault2 .ensures, c .before .enum-told5 .given .1)
+
+returns-9 : tie.Need-returns-9
+returns-9 c = search needs
+
+returns-10 : tie.Need-returns-10
+returns-10 c = search needs
+
+pub fault-of-spec : {M : Type 1} → statement M
+fault-of-spec =
+    tie.close
+    (tie.spec
+    enum-told
+    enum-told-2
+    enum-told-3
+    enum-known-s
+    index-fault-requires
+    enum-known-s-2
+    index-fault-requires-2
+    enum-told-4
+    enum-known-s-3
+    status-fault-requires
+    enum-told-5
+    status-fault-requires-2
+    enum-told-6
+    enum-told-7
+    returns
+    returns-2
+    returns-3
+    returns-4
+    returns-5
+    returns-6
+    returns-7
+    returns-8
+    returns-9
+    returns-10)
