@@ -131,3 +131,9 @@ pub enum Access {
     Word(u8, usize),
     Bad(u8),
 }
+
+// How a block ends: at the place of the record that closes it, or with a fault.
+pub enum Ended {
+    Shut(usize),
+    Fault(u8, usize),
+}

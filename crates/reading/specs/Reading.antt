@@ -10,6 +10,8 @@ use Rattle.model.specs.declared.Record.{Record}
 use Rattle.model.specs.declared.Record.the-variants.{Do, Call, If, Else, Endif, While, Endwhile, Return}
 use Rattle.model.specs.declared.Walked.{Walked}
 use Rattle.model.specs.declared.Walked.the-variants.{Next, Shut, Fault}
+use Rattle.model.specs.declared.Ended.{Ended}
+use Rattle.model.specs.declared.Ended.the-variants.{Shut as Closed, Fault as Failed}
 use Rattle.format.specs.Format.{byte, word16, find, decodeAt}
 use Rattle.format.specs.Layout.{sizesOf, startOf}
 use Rattle.format.specs.declared.Decoded.{Decoded}
@@ -25,15 +27,14 @@ abbrev pub onRecord : {A : Type 0} → (ℕ → ℕ → A) → Decoded → (Reco
 onRecord bad (Got r next) g = g r next
 onRecord bad (Bad n p) g = bad n p
 
-abbrev pub onNext : Walked → (ℕ → Walked) → Walked
+abbrev pub onNext : Walked → (ℕ → Ended) → Ended
 onNext (Next p) g = g p
-onNext (Shut p) g = Shut p
-onNext (Fault n p) g = Fault n p
+onNext (Shut p) g = Closed p
+onNext (Fault n p) g = Failed n p
 
-abbrev pub onShut : {A : Type 0} → (ℕ → ℕ → A) → Walked → (ℕ → A) → A
-onShut bad (Next p) g = bad 3 p
-onShut bad (Shut p) g = g p
-onShut bad (Fault n p) g = bad n p
+abbrev pub onShut : {A : Type 0} → (ℕ → ℕ → A) → Ended → (ℕ → A) → A
+onShut bad (Closed p) g = g p
+onShut bad (Failed n p) g = bad n p
 
 -- ---- THE CODE. A closing kind is allowed only where it is the closing kind c that is awaited
 unfoldable pub allowed : ℕ → ℕ → Bool
@@ -51,15 +52,15 @@ abbrev pub met : ℕ → ℕ → ℕ → Walked → Walked
 met a b p w = pick (eqb a b) w (Fault 5 p)
 
 -- IF, whose ELSE is to stand at e. B reads a block, given the closing kind that it awaits and where it begins
-unfoldable pub ifWith : (ℕ → ℕ → Walked) → List ℕ → ℕ → ℕ → Walked
+unfoldable pub ifWith : (ℕ → ℕ → Ended) → List ℕ → ℕ → ℕ → Walked
 ifWith B t next e = onShut Fault (B 0x21 next) λ p. met p e p (onShut Fault (B 0x22 (p + 3)) λ q. met q (word16 t (p + 1)) q (Next (q + 1)))
 
 -- the WHILE at `at`, whose ENDWHILE is to stand at e
-unfoldable pub whileWith : (ℕ → ℕ → Walked) → List ℕ → ℕ → ℕ → ℕ → Walked
+unfoldable pub whileWith : (ℕ → ℕ → Ended) → List ℕ → ℕ → ℕ → ℕ → Walked
 whileWith B t at next e = onShut Fault (B 0x24 next) λ p. met p e p (met (word16 t (p + 1)) at p (Next (p + 3)))
 
 -- the record r at `at`, with `next` after it
-abbrev pub readWith : (ℕ → ℕ → Walked) → ℕ → List ℕ → ℕ → Record → ℕ → Walked
+abbrev pub readWith : (ℕ → ℕ → Ended) → ℕ → List ℕ → ℕ → Record → ℕ → Walked
 readWith B cur t at (Do s) next = Next next
 readWith B cur t at (Call f m) next = callAt cur at next f
 readWith B cur t at (If r e) next = ifWith B t next e
@@ -70,21 +71,21 @@ readWith B cur t at (Endwhile w) next = Shut at
 readWith B cur t at Return next = Shut at
 
 -- records by f until one shuts the block; k bounds their number
-unfoldable pub blockWith : (ℕ → Walked) → ℕ → ℕ → Walked
-blockWith f zero at = Fault 2 at
+unfoldable pub blockWith : (ℕ → Walked) → ℕ → ℕ → Ended
+blockWith f zero at = Failed 2 at
 blockWith f (suc k) at = onNext (f at) (blockWith f k)
 
 -- an instruction of function `cur` with d nestings left, c being the closing kind awaited
 unfoldable pub instrAt : ℕ → ℕ → Sizes → List ℕ → ℕ → ℕ → Walked
-instrAt zero cur z t c at = onRecord Fault (recordAt z t c at) (readWith (λ _ _. Fault 6 at) cur t at)
+instrAt zero cur z t c at = onRecord Fault (recordAt z t c at) (readWith (λ _ _. Failed 6 at) cur t at)
 instrAt (suc d) cur z t c at = onRecord Fault (recordAt z t c at) (readWith (λ k. blockWith (instrAt d cur z t k) (length t)) cur t at)
 
-unfoldable pub blockAt : ℕ → ℕ → Sizes → List ℕ → ℕ → ℕ → Walked
+unfoldable pub blockAt : ℕ → ℕ → Sizes → List ℕ → ℕ → ℕ → Ended
 blockAt d cur z t c = blockWith (instrAt d cur z t c) (length t)
 
 -- the blocks of the record at `at`, with d nestings left
-abbrev pub blocksAt : ℕ → ℕ → Sizes → List ℕ → ℕ → ℕ → ℕ → Walked
-blocksAt zero cur z t at c x = Fault 6 at
+abbrev pub blocksAt : ℕ → ℕ → Sizes → List ℕ → ℕ → ℕ → ℕ → Ended
+blocksAt zero cur z t at c x = Failed 6 at
 blocksAt (suc d) cur z t at c x = blockAt d cur z t c x
 
 -- function i begins at `at`: its first record's 3, 2, 4, then its start place, then all of it up to its RETURN

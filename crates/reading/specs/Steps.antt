@@ -14,6 +14,8 @@ use Rattle.model.specs.declared.Record.{Record}
 use Rattle.model.specs.declared.Record.the-variants.{Do, Call, If, Else, Endif, While, Endwhile, Return}
 use Rattle.model.specs.declared.Walked.{Walked}
 use Rattle.model.specs.declared.Walked.the-variants.{Next, Shut, Fault}
+use Rattle.model.specs.declared.Ended.{Ended}
+use Rattle.model.specs.declared.Ended.the-variants.{Shut as Closed, Fault as Failed}
 use Rattle.format.specs.Format.{byte, word16, decodeAt}
 use Rattle.format.specs.Laws.{kindOf, Names, good}
 use Rattle.format.specs.declared.Decoded.{Decoded}
@@ -62,11 +64,15 @@ closing z t c at n r (e, a) h =
       whole = subst (λ (m : ℕ). m ≤ length t) (g .next) (g .whole);
     }
 
--- forward, and in the table
+-- forward, and in the table: a record, and a block
 abbrev pub Ok : Sizes → List ℕ → ℕ → ℕ → Walked → Type 0
 Ok z t c at (Next n) = (at < n) × (n ≤ length t)
 Ok z t c at (Shut p) = (at ≤ p) × Closing z t c p
 Ok z t c at (Fault n p) = Unit {0}
+
+abbrev pub OkBlock : Sizes → List ℕ → ℕ → ℕ → Ended → Type 0
+OkBlock z t c at (Closed p) = (at ≤ p) × Closing z t c p
+OkBlock z t c at (Failed n p) = Unit {0}
 
 closing-in : (z : Sizes) (t : List ℕ) (c p : ℕ) → Closing z t c p → p < length t
 closing-in z t c p k = omega (arith, k .whole, length-pos (k .with))
@@ -87,12 +93,11 @@ call-ok : (z : Sizes) (t : List ℕ) (c cur at next f : ℕ) → at < next → n
 unfolding callAt
 call-ok z t c cur at next f l k = pick-ind (Ok z t c at) (ltb f cur) (λ _. (l, k)) (λ _. tt)
 
-shut-ok : (z : Sizes) (t : List ℕ) (c at d from : ℕ) (w : Walked) (g : ℕ → Walked) → Ok z t d from w → ((p : ℕ) → from ≤ p → Closing z t d p → Ok z t c at (g p)) → Ok z t c at (onShut Fault w g)
-shut-ok z t c at d from (Next p) g h hg = tt
-shut-ok z t c at d from (Shut p) g h hg = hg p (h .0) (h .1)
-shut-ok z t c at d from (Fault n p) g h hg = tt
+shut-ok : (z : Sizes) (t : List ℕ) (c at d from : ℕ) (w : Ended) (g : ℕ → Walked) → OkBlock z t d from w → ((p : ℕ) → from ≤ p → Closing z t d p → Ok z t c at (g p)) → Ok z t c at (onShut Fault w g)
+shut-ok z t c at d from (Closed p) g h hg = hg p (h .0) (h .1)
+shut-ok z t c at d from (Failed n p) g h hg = tt
 
-if-ok : (z : Sizes) (t : List ℕ) (c : ℕ) (B : ℕ → ℕ → Walked) → ((k x : ℕ) → Ok z t k x (B k x)) → (at next e : ℕ) → at < next → Ok z t c at (ifWith B t next e)
+if-ok : (z : Sizes) (t : List ℕ) (c : ℕ) (B : ℕ → ℕ → Ended) → ((k x : ℕ) → OkBlock z t k x (B k x)) → (at next e : ℕ) → at < next → Ok z t c at (ifWith B t next e)
 unfolding ifWith
 if-ok z t c B hB at next e l =
     shut-ok z t c at 0x21 next (B 0x21 next) (λ p. met p e p (onShut Fault (B 0x22 (p + 3)) λ q. met q (word16 t (p + 1)) q (Next (q + 1)))) (hB 0x21 next)
@@ -101,7 +106,7 @@ if-ok z t c B hB at next e l =
     (λ q lq kq. pick-ind (Ok z t c at) (eqb q (word16 t (p + 1))) (λ _. (omega arith, omega (arith, closing-in z t 0x22 q kq))) (λ _. tt)))
     (λ _. tt))
 
-while-ok : (z : Sizes) (t : List ℕ) (c : ℕ) (B : ℕ → ℕ → Walked) → ((k x : ℕ) → Ok z t k x (B k x)) → (at next e : ℕ) → at < next → Ok z t c at (whileWith B t at next e)
+while-ok : (z : Sizes) (t : List ℕ) (c : ℕ) (B : ℕ → ℕ → Ended) → ((k x : ℕ) → OkBlock z t k x (B k x)) → (at next e : ℕ) → at < next → Ok z t c at (whileWith B t at next e)
 unfolding whileWith
 while-ok z t c B hB at next e l =
     shut-ok z t c at 0x24 next (B 0x24 next) (λ p. met p e p (met (word16 t (p + 1)) at p (Next (p + 3)))) (hB 0x24 next)
@@ -109,7 +114,7 @@ while-ok z t c B hB at next e l =
     (λ _. pick-ind (Ok z t c at) (eqb (word16 t (p + 1)) at) (λ _. (omega arith, endwhile-whole z t p kp)) (λ _. tt))
     (λ _. tt))
 
-read-ok : (z : Sizes) (t : List ℕ) (c cur : ℕ) (B : ℕ → ℕ → Walked) → ((k x : ℕ) → Ok z t k x (B k x)) → (at next : ℕ) → at < next → next ≤ length t
+read-ok : (z : Sizes) (t : List ℕ) (c cur : ℕ) (B : ℕ → ℕ → Ended) → ((k x : ℕ) → OkBlock z t k x (B k x)) → (at next : ℕ) → at < next → next ≤ length t
     → (r : Record) → GoodAt z t c at (Got r next) → Ok z t c at (readWith B cur t at r next)
 read-ok z t c cur B hB at next l k (Do s) g = (l, k)
 read-ok z t c cur B hB at next l k (Call f m) g = call-ok z t c cur at next f l k
@@ -120,31 +125,30 @@ read-ok z t c cur B hB at next l k (While r e L) g = while-ok z t c B hB at next
 read-ok z t c cur B hB at next l k (Endwhile w) g = (omega arith, closing z t c at next (Endwhile w) g tt)
 read-ok z t c cur B hB at next l k Return g = (omega arith, closing z t c at next Return g tt)
 
-decoded-ok : (z : Sizes) (t : List ℕ) (c cur : ℕ) (B : ℕ → ℕ → Walked) → ((k x : ℕ) → Ok z t k x (B k x)) → (at : ℕ) (d : Decoded) → GoodAt z t c at d → Ok z t c at (onRecord Fault d (readWith B cur t at))
+decoded-ok : (z : Sizes) (t : List ℕ) (c cur : ℕ) (B : ℕ → ℕ → Ended) → ((k x : ℕ) → OkBlock z t k x (B k x)) → (at : ℕ) (d : Decoded) → GoodAt z t c at d → Ok z t c at (onRecord Fault d (readWith B cur t at))
 decoded-ok z t c cur B hB at (Got r n) g =
     let w = good z t at (g .0) in read-ok z t c cur B hB at n (omega (arith, w .next, length-pos r)) (w .whole) r g
 decoded-ok z t c cur B hB at (Bad n p) g = tt
 
-weaken : (z : Sizes) (t : List ℕ) (c : ℕ) (w : Walked) (at n : ℕ) → at ≤ n → Ok z t c n w → Ok z t c at w
-weaken z t c (Next m) at n h k = (omega (arith, k .0), k .1)
-weaken z t c (Shut m) at n h k = (omega (arith, k .0), k .1)
-weaken z t c (Fault a b) at n h k = tt
+weaken : (z : Sizes) (t : List ℕ) (c : ℕ) (w : Ended) (at n : ℕ) → at ≤ n → OkBlock z t c n w → OkBlock z t c at w
+weaken z t c (Closed p) at n h k = (omega (arith, k .0), k .1)
+weaken z t c (Failed a b) at n h k = tt
 
-after-ok : (z : Sizes) (t : List ℕ) (c at : ℕ) (w : Walked) (g : ℕ → Walked) → Ok z t c at w → ((n : ℕ) → Ok z t c n (g n)) → Ok z t c at (onNext w g)
+after-ok : (z : Sizes) (t : List ℕ) (c at : ℕ) (w : Walked) (g : ℕ → Ended) → Ok z t c at w → ((n : ℕ) → OkBlock z t c n (g n)) → OkBlock z t c at (onNext w g)
 after-ok z t c at (Next n) g h hg = weaken z t c (g n) at n (omega (arith, h .0)) (hg n)
 after-ok z t c at (Shut p) g h hg = h
 after-ok z t c at (Fault a b) g h hg = tt
 
-block-ok : (z : Sizes) (t : List ℕ) (c : ℕ) (f : ℕ → Walked) → ((x : ℕ) → Ok z t c x (f x)) → (k at : ℕ) → Ok z t c at (blockWith f k at)
+block-ok : (z : Sizes) (t : List ℕ) (c : ℕ) (f : ℕ → Walked) → ((x : ℕ) → Ok z t c x (f x)) → (k at : ℕ) → OkBlock z t c at (blockWith f k at)
 unfolding blockWith
 block-ok z t c f h zero at = tt
 block-ok z t c f h (suc k) at = after-ok z t c at (f at) (blockWith f k) (h at) (block-ok z t c f h k)
 
 pub instr-ok : (d cur : ℕ) (z : Sizes) (t : List ℕ) (c at : ℕ) → Ok z t c at (instrAt d cur z t c at)
 unfolding instrAt
-instr-ok zero cur z t c at = decoded-ok z t c cur (λ _ _. Fault 6 at) (λ k x. tt) at (recordAt z t c at) (record-good z t c at)
+instr-ok zero cur z t c at = decoded-ok z t c cur (λ _ _. Failed 6 at) (λ k x. tt) at (recordAt z t c at) (record-good z t c at)
 instr-ok (suc d) cur z t c at = decoded-ok z t c cur (λ k. blockWith (instrAt d cur z t k) (length t)) (λ k x. block-ok z t k (instrAt d cur z t k) (instr-ok d cur z t k) (length t) x) at (recordAt z t c at) (record-good z t c at)
 
-pub block-at-ok : (d cur : ℕ) (z : Sizes) (t : List ℕ) (c at : ℕ) → Ok z t c at (blockAt d cur z t c at)
+pub block-at-ok : (d cur : ℕ) (z : Sizes) (t : List ℕ) (c at : ℕ) → OkBlock z t c at (blockAt d cur z t c at)
 unfolding blockAt
 block-at-ok d cur z t c at = block-ok z t c (instrAt d cur z t c) (instr-ok d cur z t c) (length t) at

@@ -2,6 +2,7 @@
 // call each other. What falls: the nesting that is left, from 16, and within a block the bytes left.
 use format::Decoded;
 use format::To;
+use model::Ended;
 use model::Record;
 use model::Sizes;
 use model::Walked;
@@ -63,17 +64,15 @@ fn branch_at(t: &[u8], z: Sizes, cur: u8, at: usize, next: usize, to: usize, dep
     }
     let first = block(t, z, cur, 0x21, next, depth - 1);
     match first {
-        Walked::Next(p) => Walked::Fault(3, p),
-        Walked::Fault(n, p) => Walked::Fault(n, p),
-        Walked::Shut(p) => {
+        Ended::Fault(n, p) => Walked::Fault(n, p),
+        Ended::Shut(p) => {
             if p != to {
                 return Walked::Fault(5, p);
             }
             let second = block(t, z, cur, 0x22, p + 3, depth - 1);
             match second {
-                Walked::Next(q) => Walked::Fault(3, q),
-                Walked::Fault(n, q) => Walked::Fault(n, q),
-                Walked::Shut(q) => met_at(q, format::place_at(t, p + 1), q, q + 1),
+                Ended::Fault(n, q) => Walked::Fault(n, q),
+                Ended::Shut(q) => met_at(q, format::place_at(t, p + 1), q, q + 1),
             }
         }
     }
@@ -88,9 +87,8 @@ fn loop_at(t: &[u8], z: Sizes, cur: u8, at: usize, next: usize, to: usize, depth
     }
     let body = block(t, z, cur, 0x24, next, depth - 1);
     match body {
-        Walked::Next(p) => Walked::Fault(3, p),
-        Walked::Fault(n, p) => Walked::Fault(n, p),
-        Walked::Shut(p) => {
+        Ended::Fault(n, p) => Walked::Fault(n, p),
+        Ended::Shut(p) => {
             if p != to {
                 return Walked::Fault(5, p);
             }
@@ -118,7 +116,7 @@ fn instr(t: &[u8], z: Sizes, cur: u8, c: u8, at: usize, depth: u8) -> Walked
     }
 }
 
-fn block(t: &[u8], z: Sizes, cur: u8, c: u8, from: usize, depth: u8) -> Walked
+fn block(t: &[u8], z: Sizes, cur: u8, c: u8, from: usize, depth: u8) -> Ended
     ensures { λ r. ⌜ r ≡ blockAt depth cur z (now (t .entry)) c from ⌝ }
 {
     let mut at = from;
@@ -129,10 +127,10 @@ fn block(t: &[u8], z: Sizes, cur: u8, c: u8, from: usize, depth: u8) -> Walked
                 at = n;
             }
             Walked::Shut(p) => {
-                return Walked::Shut(p);
+                return Ended::Shut(p);
             }
             Walked::Fault(n, p) => {
-                return Walked::Fault(n, p);
+                return Ended::Fault(n, p);
             }
         }
     }
@@ -152,9 +150,8 @@ fn function(t: &[u8], z: Sizes, i: u8, at: usize) -> To
             }
             let b = block(t, z, i, 0x25, at, 16);
             match b {
-                Walked::Next(p) => To::Fault(3, p),
-                Walked::Fault(n, p) => To::Fault(n, p),
-                Walked::Shut(p) => To::At(p + 1),
+                Ended::Fault(n, p) => To::Fault(n, p),
+                Ended::Shut(p) => To::At(p + 1),
             }
         }
     }

@@ -236,16 +236,6 @@ branch-at-enum-known-first-2 : (t : ℕ) → branch-at-lts.Need-enum-known-first
 ) (branch-at-at t) branch-at.Post
 branch-at-enum-known-first-2 t c = search needs
 
-branch-at-enum-known-first-3 : (t : ℕ) → branch-at-lts.Need-enum-known-first-3 (
-  block-below t,
-  block.Post,
-  place-at-reads.Asked,
-  place-at-reads.Learnt,
-  met-at-reads.Asked,
-  met-at-reads.Learnt,
-) (branch-at-at t) branch-at.Post
-branch-at-enum-known-first-3 t c = search needs
-
 branch-at-returns-2 : (t : ℕ) → branch-at-lts.Need-returns-2 (
   block-below t,
   block.Post,
@@ -257,7 +247,7 @@ branch-at-returns-2 : (t : ℕ) → branch-at-lts.Need-returns-2 (
 branch-at-returns-2 t c =
     let a = c .before .before .before .before .before .before .before .args in
     let h = c .before .before .before .before .before .if1 .left in
-    let b = sym (c .before .before .before .before .block .ensures) ∙ c .before .before .first3 .given .1 in
+    let b = sym (c .before .before .before .before .block .ensures) ∙ c .before .before .first2 .given .1 in
     if-missed (a .depth) (a .cur) (a .z) (a .t .now) (a .at) (a .next) (a .to) h b (c .if2 .taken)
 
 branch-at-add-block : (t : ℕ) → branch-at-lts.Need-add-block (
@@ -270,7 +260,7 @@ branch-at-add-block : (t : ℕ) → branch-at-lts.Need-add-block (
 ) (branch-at-at t) branch-at.Post
 branch-at-add-block t c =
     let a = c .before .before .before .before .before .before .before .args in
-    let w = shut-else (a .depth - 1) (a .cur) (a .z) (a .t .now) (a .next) (sym (c .before .before .before .before .block .ensures) ∙ c .before .before .first3 .given .1) in
+    let w = shut-else (a .depth - 1) (a .cur) (a .z) (a .t .now) (a .next) (sym (c .before .before .before .before .block .ensures) ∙ c .before .before .first2 .given .1) in
     search needs
 
 branch-at-sub-block-2 : (t : ℕ) → branch-at-lts.Need-sub-block-2 (
@@ -313,16 +303,6 @@ branch-at-enum-known-second-2 : (t : ℕ) → branch-at-lts.Need-enum-known-seco
 ) (branch-at-at t) branch-at.Post
 branch-at-enum-known-second-2 t c = search needs
 
-branch-at-enum-known-second-3 : (t : ℕ) → branch-at-lts.Need-enum-known-second-3 (
-  block-below t,
-  block.Post,
-  place-at-reads.Asked,
-  place-at-reads.Learnt,
-  met-at-reads.Asked,
-  met-at-reads.Learnt,
-) (branch-at-at t) branch-at.Post
-branch-at-enum-known-second-3 t c = search needs
-
 branch-at-add-place-at : (t : ℕ) → branch-at-lts.Need-add-place-at (
   block-below t,
   block.Post,
@@ -333,7 +313,7 @@ branch-at-add-place-at : (t : ℕ) → branch-at-lts.Need-add-place-at (
 ) (branch-at-at t) branch-at.Post
 branch-at-add-place-at t c =
     let a = c .before .before .before .before .before .before .before .before .before .before .before .args in
-    let w = shut-else (a .depth - 1) (a .cur) (a .z) (a .t .now) (a .next) (sym (c .before .before .before .before .before .before .before .before .block .ensures) ∙ c .before .before .before .before .before .before .first3 .given .1) in
+    let w = shut-else (a .depth - 1) (a .cur) (a .z) (a .t .now) (a .next) (sym (c .before .before .before .before .before .before .before .before .block .ensures) ∙ c .before .before .before .before .before .before .first2 .given .1) in
     search needs
 
 branch-at-place-at-requires : (t : ℕ) → branch-at-lts.Need-place-at-requires (
@@ -356,7 +336,7 @@ branch-at-add-met-at : (t : ℕ) → branch-at-lts.Need-add-met-at (
 ) (branch-at-at t) branch-at.Post
 branch-at-add-met-at t c =
     let a = c .before .before .before .before .before .before .before .before .before .before .before .before .args in
-    let w = shut-one (a .depth - 1) (a .cur) (a .z) (a .t .now) 0x22 _ (sym (c .before .before .before .before .block2 .ensures) ∙ c .before .before .second3 .given .1) in
+    let w = shut-one (a .depth - 1) (a .cur) (a .z) (a .t .now) 0x22 _ (sym (c .before .before .before .before .block2 .ensures) ∙ c .before .before .second2 .given .1) in
     search needs
 
 branch-at-met-at-requires : (t : ℕ) → branch-at-lts.Need-met-at-requires (
@@ -392,10 +372,11 @@ branch-at-returns-4 : (t : ℕ) → branch-at-lts.Need-returns-4 (
   met-at-reads.Learnt,
 ) (branch-at-at t) branch-at.Post
 branch-at-returns-4 t c =
-    let a = c .before .before .before .before .before .before .args in
-    let h = c .before .before .before .before .if1 .left in
-    let b = sym (c .before .before .before .block .ensures) ∙ c .before .first2 .given .1 in
-    if-is (a .depth) (a .cur) (a .z) (a .t .now) (a .at) (a .next) (a .to) h b
+    let a = c .before .before .before .before .before .before .before .before .before .before .before .args in
+    let h = c .before .before .before .before .before .before .before .before .before .if1 .left in
+    let b = sym (c .before .before .before .before .before .before .before .before .block .ensures) ∙ c .before .before .before .before .before .before .first2 .given .1 in
+    let d = sym (c .before .before .before .block2 .ensures) ∙ c .before .second .given .1 in
+    if-met (a .depth) (a .cur) (a .z) (a .t .now) (a .at) (a .next) (a .to) h b (c .before .before .before .before .if2 .left) d
 
 branch-at-returns-5 : (t : ℕ) → branch-at-lts.Need-returns-5 (
   block-below t,
@@ -406,40 +387,10 @@ branch-at-returns-5 : (t : ℕ) → branch-at-lts.Need-returns-5 (
   met-at-reads.Learnt,
 ) (branch-at-at t) branch-at.Post
 branch-at-returns-5 t c =
-    let a = c .before .before .before .before .before .before .before .before .before .before .before .args in
-    let h = c .before .before .before .before .before .before .before .before .before .if1 .left in
-    let b = sym (c .before .before .before .before .before .before .before .before .block .ensures) ∙ c .before .before .before .before .before .before .first3 .given .1 in
-    let d = sym (c .before .before .before .block2 .ensures) ∙ c .before .second .given .1 in
-    if-met (a .depth) (a .cur) (a .z) (a .t .now) (a .at) (a .next) (a .to) h b (c .before .before .before .before .if2 .left) d
-
-branch-at-returns-6 : (t : ℕ) → branch-at-lts.Need-returns-6 (
-  block-below t,
-  block.Post,
-  place-at-reads.Asked,
-  place-at-reads.Learnt,
-  met-at-reads.Asked,
-  met-at-reads.Learnt,
-) (branch-at-at t) branch-at.Post
-branch-at-returns-6 t c =
-    let a = c .before .before .before .before .before .before .before .before .before .before .before .args in
-    let h = c .before .before .before .before .before .before .before .before .before .if1 .left in
-    let b = sym (c .before .before .before .before .before .before .before .before .block .ensures) ∙ c .before .before .before .before .before .before .first3 .given .1 in
-    let d = sym (c .before .before .before .block2 .ensures) ∙ c .before .second2 .given .1 in
-    if-met (a .depth) (a .cur) (a .z) (a .t .now) (a .at) (a .next) (a .to) h b (c .before .before .before .before .if2 .left) d
-
-branch-at-returns-7 : (t : ℕ) → branch-at-lts.Need-returns-7 (
-  block-below t,
-  block.Post,
-  place-at-reads.Asked,
-  place-at-reads.Learnt,
-  met-at-reads.Asked,
-  met-at-reads.Learnt,
-) (branch-at-at t) branch-at.Post
-branch-at-returns-7 t c =
     let a = c .before .before .before .before .before .before .before .before .before .before .before .before .before .args in
     let h = c .before .before .before .before .before .before .before .before .before .before .before .if1 .left in
-    let b = sym (c .before .before .before .before .before .before .before .before .before .before .block .ensures) ∙ c .before .before .before .before .before .before .before .before .first3 .given .1 in
-    let d = sym (c .before .before .before .before .before .block2 .ensures) ∙ c .before .before .before .second3 .given .1 in
+    let b = sym (c .before .before .before .before .before .before .before .before .before .before .block .ensures) ∙ c .before .before .before .before .before .before .before .before .first2 .given .1 in
+    let d = sym (c .before .before .before .before .before .block2 .ensures) ∙ c .before .before .before .second2 .given .1 in
     rw (c .met-at .ensures, c .before .place-at .ensures .0) (if-met (a .depth) (a .cur) (a .z) (a .t .now) (a .at) (a .next) (a .to) h b (c .before .before .before .before .before .before .if2 .left) d)
 
 instr-record-requires : (t : ℕ) → instr-lts.Need-record-requires (
@@ -796,16 +747,6 @@ loop-at-enum-known-body-2 : (t : ℕ) → loop-at-lts.Need-enum-known-body-2 (
 ) (loop-at-at t) loop-at.Post
 loop-at-enum-known-body-2 t c = search needs
 
-loop-at-enum-known-body-3 : (t : ℕ) → loop-at-lts.Need-enum-known-body-3 (
-  block-below t,
-  block.Post,
-  place-at-reads.Asked,
-  place-at-reads.Learnt,
-  met-at-reads.Asked,
-  met-at-reads.Learnt,
-) (loop-at-at t) loop-at.Post
-loop-at-enum-known-body-3 t c = search needs
-
 loop-at-returns-2 : (t : ℕ) → loop-at-lts.Need-returns-2 (
   block-below t,
   block.Post,
@@ -817,7 +758,7 @@ loop-at-returns-2 : (t : ℕ) → loop-at-lts.Need-returns-2 (
 loop-at-returns-2 t c =
     let a = c .before .before .before .before .before .before .before .args in
     let h = c .before .before .before .before .before .if1 .left in
-    let b = sym (c .before .before .before .before .block .ensures) ∙ c .before .before .body3 .given .1 in
+    let b = sym (c .before .before .before .before .block .ensures) ∙ c .before .before .body2 .given .1 in
     while-missed (a .depth) (a .cur) (a .z) (a .t .now) (a .at) (a .next) (a .to) h b (c .if2 .taken)
 
 loop-at-add-place-at : (t : ℕ) → loop-at-lts.Need-add-place-at (
@@ -830,7 +771,7 @@ loop-at-add-place-at : (t : ℕ) → loop-at-lts.Need-add-place-at (
 ) (loop-at-at t) loop-at.Post
 loop-at-add-place-at t c =
     let a = c .before .before .before .before .before .before .before .args in
-    let w = shut-endwhile (a .depth - 1) (a .cur) (a .z) (a .t .now) (a .next) (sym (c .before .before .before .before .block .ensures) ∙ c .before .before .body3 .given .1) in
+    let w = shut-endwhile (a .depth - 1) (a .cur) (a .z) (a .t .now) (a .next) (sym (c .before .before .before .before .block .ensures) ∙ c .before .before .body2 .given .1) in
     search needs
 
 loop-at-place-at-requires : (t : ℕ) → loop-at-lts.Need-place-at-requires (
@@ -853,7 +794,7 @@ loop-at-add-met-at : (t : ℕ) → loop-at-lts.Need-add-met-at (
 ) (loop-at-at t) loop-at.Post
 loop-at-add-met-at t c =
     let a = c .before .before .before .before .before .before .before .before .args in
-    let w = shut-endwhile (a .depth - 1) (a .cur) (a .z) (a .t .now) (a .next) (sym (c .before .before .before .before .before .block .ensures) ∙ c .before .before .before .body3 .given .1) in
+    let w = shut-endwhile (a .depth - 1) (a .cur) (a .z) (a .t .now) (a .next) (sym (c .before .before .before .before .before .block .ensures) ∙ c .before .before .before .body2 .given .1) in
     search needs
 
 loop-at-met-at-requires : (t : ℕ) → loop-at-lts.Need-met-at-requires (
@@ -889,23 +830,9 @@ loop-at-returns-4 : (t : ℕ) → loop-at-lts.Need-returns-4 (
   met-at-reads.Learnt,
 ) (loop-at-at t) loop-at.Post
 loop-at-returns-4 t c =
-    let a = c .before .before .before .before .before .before .args in
-    let h = c .before .before .before .before .if1 .left in
-    let b = sym (c .before .before .before .block .ensures) ∙ c .before .body2 .given .1 in
-    while-is (a .depth) (a .cur) (a .z) (a .t .now) (a .at) (a .next) (a .to) h b
-
-loop-at-returns-5 : (t : ℕ) → loop-at-lts.Need-returns-5 (
-  block-below t,
-  block.Post,
-  place-at-reads.Asked,
-  place-at-reads.Learnt,
-  met-at-reads.Asked,
-  met-at-reads.Learnt,
-) (loop-at-at t) loop-at.Post
-loop-at-returns-5 t c =
     let a = c .before .before .before .before .before .before .before .before .before .args in
     let h = c .before .before .before .before .before .before .before .if1 .left in
-    let b = sym (c .before .before .before .before .before .before .block .ensures) ∙ c .before .before .before .before .body3 .given .1 in
+    let b = sym (c .before .before .before .before .before .before .block .ensures) ∙ c .before .before .before .before .body2 .given .1 in
     rw (c .met-at .ensures, c .before .place-at .ensures .0) (while-met (a .depth) (a .cur) (a .z) (a .t .now) (a .at) (a .next) (a .to) h b (c .before .before .if2 .left))
 
 pub +block+branch-at+instr+loop-at-spec : {M : Type 1} → statement M
@@ -945,23 +872,19 @@ pub +block+branch-at+instr+loop-at-spec : {M : Type 1} → statement M
     (branch-at-block-requires t)
     (branch-at-enum-known-first t)
     (branch-at-enum-known-first-2 t)
-    (branch-at-enum-known-first-3 t)
     (branch-at-returns-2 t)
     (branch-at-add-block t)
     (branch-at-sub-block-2 t)
     (branch-at-block-requires-2 t)
     (branch-at-enum-known-second t)
     (branch-at-enum-known-second-2 t)
-    (branch-at-enum-known-second-3 t)
     (branch-at-add-place-at t)
     (branch-at-place-at-requires t)
     (branch-at-add-met-at t)
     (branch-at-met-at-requires t)
     (branch-at-returns-3 t)
     (branch-at-returns-4 t)
-    (branch-at-returns-5 t)
-    (branch-at-returns-6 t)
-    (branch-at-returns-7 t))
+    (branch-at-returns-5 t))
     (λ t. instr-lts.spec (
       record-reads.Asked,
       record-reads.Learnt,
@@ -1012,7 +935,6 @@ pub +block+branch-at+instr+loop-at-spec : {M : Type 1} → statement M
     (loop-at-block-requires t)
     (loop-at-enum-known-body t)
     (loop-at-enum-known-body-2 t)
-    (loop-at-enum-known-body-3 t)
     (loop-at-returns-2 t)
     (loop-at-add-place-at t)
     (loop-at-place-at-requires t)
@@ -1020,4 +942,3 @@ pub +block+branch-at+instr+loop-at-spec : {M : Type 1} → statement M
     (loop-at-met-at-requires t)
     (loop-at-returns-3 t)
     (loop-at-returns-4 t)
-    (loop-at-returns-5 t)

@@ -39,13 +39,10 @@ enum-known-b c = search needs
 enum-known-b-2 : tie.Need-enum-known-b-2
 enum-known-b-2 c = search needs
 
-enum-known-b-3 : tie.Need-enum-known-b-3
-enum-known-b-3 c = search needs
-
-add-t19 : tie.Need-add-t19
-add-t19 c =
+add-t18 : tie.Need-add-t18
+add-t18 c =
     let a = c .before .before .before .before .before .before .before .before .before .before .before .args in
-    let w = shut-one 16 (a .i) (a .z) (a .t .now) 0x25 (a .at) (sym (c .before .before .before .block .ensures) ∙ c .before .b3 .given .1) in
+    let w = shut-one 16 (a .i) (a .z) (a .t .now) 0x25 (a .at) (sym (c .before .before .before .block .ensures) ∙ c .before .b2 .given .1) in
     search needs
 
 returns-2 : tie.Need-returns-2
@@ -70,14 +67,6 @@ returns-4 c =
     let b = sym (c .before .before .before .block .ensures) ∙ c .before .b2 .given .1 in
     simp (e, b, eq-eqb)
 
-returns-5 : tie.Need-returns-5
-unfolding functionAt
-returns-5 c =
-    let e = sym (c .before .before .before .before .before .before .before .before .before .«record» .ensures) ∙ c .before .before .before .before .before .before .before .d2 .given .1 in
-    let k = simp (c .before .before .before .before .before .start-of .ensures .0) at (c .before .before .before .before .if1 .left) in
-    let b = sym (c .before .before .before .block .ensures) ∙ c .before .b3 .given .1 in
-    simp (e, b, eq-eqb)
-
 pub function-spec : {M : Type 1} → statement M
 function-spec =
     tie.close
@@ -90,9 +79,7 @@ function-spec =
     block-requires
     enum-known-b
     enum-known-b-2
-    enum-known-b-3
-    add-t19
+    add-t18
     returns-2
     returns-3
-    returns-4
-    returns-5)
+    returns-4)
