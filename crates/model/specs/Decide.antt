@@ -16,6 +16,7 @@ use Rattle.model.specs.declared.Status.the-variants.{Updated, Outdated}
 use Rattle.model.specs.declared.Simple.{Simple}
 use Rattle.model.specs.declared.Simple.the-variants.{Const, Op, Select, Load, Store, Init, Update, Protect, LoadFixed, StoreFixed}
 use Rattle.model.specs.declared.Record.{Record}
+use Rattle.model.specs.declared.Record.the-variants.{Do}
 
 -- the environment gives a simple record what it asks
 abbrev pub meets : Simple → Env → Bool
