@@ -41,12 +41,6 @@ levels-in-returns-2 t c =
     let k = c .if2 .taken in
     simp (levels-is, eq-eqb)
 
-levels-in-sub-levels-in : (t : ℕ) → levels-in-lts.Need-sub-levels-in (levels-in-claims t) (levels-in-at t) levels-in.Post
-levels-in-sub-levels-in t c = search needs
-
-levels-in-levels-in-requires : (t : ℕ) → levels-in-lts.Need-levels-in-requires (levels-in-claims t) (levels-in-at t) levels-in.Post
-levels-in-levels-in-requires t c κs = search needs
-
 levels-in-returns-3 :
     (t : ℕ) →
     levels-in-lts.Need-returns-3
@@ -68,6 +62,6 @@ pub +levels-in-spec : {M : Type 1} → statement M
     levels-in.Post
     (levels-in-returns t)
     (levels-in-returns-2 t)
-    (levels-in-sub-levels-in t)
-    (levels-in-levels-in-requires t)
+    (λ c. search needs)
+    (λ c κs. search needs)
     (levels-in-returns-3 t)

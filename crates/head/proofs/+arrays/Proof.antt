@@ -29,21 +29,6 @@ unfolding arraysAt
 arrays-returns t c =
     simp (c .if1 .taken)
 
-arrays-array-requires : (t : ℕ) → arrays-lts.Need-array-requires (arrays-claims t) (arrays-at t) arrays.Post
-arrays-array-requires t c κs = search needs
-
-arrays-enum-known-one : (t : ℕ) → arrays-lts.Need-enum-known-one (arrays-claims t) (arrays-at t) arrays.Post
-arrays-enum-known-one t c = search needs
-
-arrays-sub-arrays : (t : ℕ) → arrays-lts.Need-sub-arrays (arrays-claims t) (arrays-at t) arrays.Post
-arrays-sub-arrays t c = search needs
-
-arrays-arrays-requires : (t : ℕ) → arrays-lts.Need-arrays-requires (arrays-claims t) (arrays-at t) arrays.Post
-arrays-arrays-requires t c κs = search needs
-
-arrays-enum-known-one-2 : (t : ℕ) → arrays-lts.Need-enum-known-one-2 (arrays-claims t) (arrays-at t) arrays.Post
-arrays-enum-known-one-2 t c = search needs
-
 arrays-returns-2 : (t : ℕ) → arrays-lts.Need-returns-2 (arrays-claims t) (arrays-at t) arrays.Post
 arrays-returns-2 t c =
     let h = c .before .before .before .before .before .if1 .left in
@@ -61,10 +46,10 @@ pub +arrays-spec : {M : Type 1} → statement M
     (arrays-at t)
     arrays.Post
     (arrays-returns t)
-    (arrays-array-requires t)
-    (arrays-enum-known-one t)
-    (arrays-sub-arrays t)
-    (arrays-arrays-requires t)
-    (arrays-enum-known-one-2 t)
+    (λ c κs. search needs)
+    (λ c. search needs)
+    (λ c. search needs)
+    (λ c κs. search needs)
+    (λ c. search needs)
     (arrays-returns-2 t)
     (arrays-returns-3 t)

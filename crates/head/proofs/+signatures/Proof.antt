@@ -31,24 +31,6 @@ unfolding signaturesAt
 signatures-returns t c =
     simp (c .if1 .taken)
 
-signatures-sub-signature : (t : ℕ) → signatures-lts.Need-sub-signature (signatures-claims t) (signatures-at t) signatures.Post
-signatures-sub-signature t c = search needs
-
-signatures-signature-requires : (t : ℕ) → signatures-lts.Need-signature-requires (signatures-claims t) (signatures-at t) signatures.Post
-signatures-signature-requires t c κs = search needs
-
-signatures-enum-known-one : (t : ℕ) → signatures-lts.Need-enum-known-one (signatures-claims t) (signatures-at t) signatures.Post
-signatures-enum-known-one t c = search needs
-
-signatures-sub-signatures : (t : ℕ) → signatures-lts.Need-sub-signatures (signatures-claims t) (signatures-at t) signatures.Post
-signatures-sub-signatures t c = search needs
-
-signatures-signatures-requires : (t : ℕ) → signatures-lts.Need-signatures-requires (signatures-claims t) (signatures-at t) signatures.Post
-signatures-signatures-requires t c κs = search needs
-
-signatures-enum-known-one-2 : (t : ℕ) → signatures-lts.Need-enum-known-one-2 (signatures-claims t) (signatures-at t) signatures.Post
-signatures-enum-known-one-2 t c = search needs
-
 signatures-returns-2 : (t : ℕ) → signatures-lts.Need-returns-2 (signatures-claims t) (signatures-at t) signatures.Post
 signatures-returns-2 t c =
     let h = c .before .before .before .before .before .if1 .left in
@@ -66,11 +48,11 @@ pub +signatures-spec : {M : Type 1} → statement M
     (signatures-at t)
     signatures.Post
     (signatures-returns t)
-    (signatures-sub-signature t)
-    (signatures-signature-requires t)
-    (signatures-enum-known-one t)
-    (signatures-sub-signatures t)
-    (signatures-signatures-requires t)
-    (signatures-enum-known-one-2 t)
+    (λ c. search needs)
+    (λ c κs. search needs)
+    (λ c. search needs)
+    (λ c. search needs)
+    (λ c κs. search needs)
+    (λ c. search needs)
     (signatures-returns-2 t)
     (signatures-returns-3 t)

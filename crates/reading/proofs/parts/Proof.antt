@@ -10,36 +10,6 @@ use Rattle.head.proofs.signatures.Reads as signatures-reads
 use Rattle.head.proofs.sizes.Reads as sizes-reads
 use Rattle.reading.proofs.code.functions.Reads as functions-reads
 
-sizes-requires : tie.Need-sizes-requires
-sizes-requires c κs = search needs
-
-enum-known-first : tie.Need-enum-known-first
-enum-known-first c = search needs
-
-enum-known-first-2 : tie.Need-enum-known-first-2
-enum-known-first-2 c = search needs
-
-arrays-requires : tie.Need-arrays-requires
-arrays-requires c κs = search needs
-
-enum-known-second : tie.Need-enum-known-second
-enum-known-second c = search needs
-
-enum-known-second-2 : tie.Need-enum-known-second-2
-enum-known-second-2 c = search needs
-
-signatures-requires : tie.Need-signatures-requires
-signatures-requires c κs = search needs
-
-enum-known-third : tie.Need-enum-known-third
-enum-known-third c = search needs
-
-enum-known-third-2 : tie.Need-enum-known-third-2
-enum-known-third-2 c = search needs
-
-functions-requires : tie.Need-functions-requires
-functions-requires c κs = search needs
-
 returns : tie.Need-returns
 unfolding partsAt
 returns c =
@@ -73,16 +43,16 @@ pub parts-spec : {M : Type 1} → statement M
 parts-spec =
     tie.close
     (tie.spec
-    sizes-requires
-    enum-known-first
-    enum-known-first-2
-    arrays-requires
-    enum-known-second
-    enum-known-second-2
-    signatures-requires
-    enum-known-third
-    enum-known-third-2
-    functions-requires
+    (λ c κs. search needs)
+    (λ c. search needs)
+    (λ c. search needs)
+    (λ c κs. search needs)
+    (λ c. search needs)
+    (λ c. search needs)
+    (λ c κs. search needs)
+    (λ c. search needs)
+    (λ c. search needs)
+    (λ c κs. search needs)
     returns
     returns-2
     returns-3

@@ -18,18 +18,6 @@ returns c =
     let h : 32768 < length (c .before .before .args .t .now) = omega (arith, c .if1 .taken) in
     simp lt-ltb
 
-sizes-of-requires : tie.Need-sizes-of-requires
-sizes-of-requires c κs = search needs
-
-parts-requires : tie.Need-parts-requires
-parts-requires c κs = search needs
-
-enum-known-all : tie.Need-enum-known-all
-enum-known-all c = search needs
-
-enum-known-all-2 : tie.Need-enum-known-all-2
-enum-known-all-2 c = search needs
-
 returns-2 : tie.Need-returns-2
 unfolding readAt
 returns-2 c =
@@ -51,9 +39,9 @@ read-spec =
     tie.close
     (tie.spec
     returns
-    sizes-of-requires
-    parts-requires
-    enum-known-all
-    enum-known-all-2
+    (λ c κs. search needs)
+    (λ c κs. search needs)
+    (λ c. search needs)
+    (λ c. search needs)
     returns-2
     returns-3)

@@ -1,3 +1,4 @@
+use Rattle.model.specs.Tests.{pick-same}
 use mathlib.Core.Path.{sym, _∙_}
 use borrow.Author.Tests.{lt-ltb, le-ltb, not-true, not-false}
 use Rattle.format.specs.Format.{rowAt}
@@ -28,8 +29,7 @@ unfolding rowAt
 returns-3 c =
     let h1 = c .if3 .taken in
     let w = simp (c .before .before .before .before .before .before .before .place-at .ensures .0) at (sym (c .before .before .before .has-word .ensures) ∙ not-false _ (c .before .before .if2 .left)) in
-    let h2 = c .before .before .before .before .if1 .left in
-    simp (whole (c .before .before .before .before .before .before .before .before .before .before .args .t .now) (c .before .before .before .before .before .before .before .before .before .before .args .at) 5 (c .before .before .before .before .before .before .before .before .before .before .pre), c .before .before .before .before .before .before .before .place-at .ensures .0, w, lt-ltb, le-ltb)
+    simp (whole (c .before .before .before .before .before .before .before .before .before .before .args .t .now) (c .before .before .before .before .before .before .before .before .before .before .args .at) 5 (c .before .before .before .before .before .before .before .before .before .before .pre), c .before .before .before .before .before .before .before .place-at .ensures .0, w, le-ltb, pick-same)
 
 returns-4 : tie.Need-returns-4
 unfolding rowAt

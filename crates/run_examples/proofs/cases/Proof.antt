@@ -10,35 +10,8 @@ Inv-loop s at₀ at = at ≤ length s
 abbrev μ-loop : tie.MeasureT-loop
 μ-loop s at₀ at = length s - at
 
-loop-holds : tie.Need-loop-holds Inv-loop μ-loop
-loop-holds c = search needs
-
-sub-case : tie.Need-sub-case Inv-loop μ-loop
-sub-case c = search needs
-
-part-case-start : tie.Need-part-case-start Inv-loop μ-loop
-part-case-start c = search needs
-
-part-case-end : tie.Need-part-case-end Inv-loop μ-loop
-part-case-end c = search needs
-
-case-requires : tie.Need-case-requires Inv-loop μ-loop
-case-requires c κs = search needs
-
-no-case-requires : tie.Need-no-case-requires Inv-loop μ-loop
-no-case-requires c κs = search needs
-
 returns : tie.Need-returns Inv-loop μ-loop
 returns c = search needs
-
-add-at : tie.Need-add-at Inv-loop μ-loop
-add-at c = search needs
-
-loop-less : tie.Need-loop-less Inv-loop μ-loop
-loop-less c = search needs
-
-loop-again : tie.Need-loop-again Inv-loop μ-loop
-loop-again c = search needs
 
 returns-2 : tie.Need-returns-2 Inv-loop μ-loop
 returns-2 c = search needs
@@ -49,14 +22,14 @@ cases-spec =
     (tie.spec
     Inv-loop
     μ-loop
-    loop-holds
-    sub-case
-    part-case-start
-    part-case-end
-    case-requires
-    no-case-requires
+    (λ c. search needs)
+    (λ c. search needs)
+    (λ c. search needs)
+    (λ c. search needs)
+    (λ c κs. search needs)
+    (λ c κs. search needs)
     returns
-    add-at
-    loop-less
-    loop-again
+    (λ c. search needs)
+    (λ c. search needs)
+    (λ c. search needs)
     returns-2)

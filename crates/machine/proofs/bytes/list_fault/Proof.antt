@@ -27,12 +27,6 @@ returns c =
 loop-holds : tie.Need-loop-holds Inv-loop μ-loop
 loop-holds c = (omega arith, length (c .before .before .args .d .now), omega arith, refl)
 
-directive-at-requires : tie.Need-directive-at-requires Inv-loop μ-loop
-directive-at-requires c κs = search needs
-
-enum-told : tie.Need-enum-told Inv-loop μ-loop
-enum-told c = search needs
-
 returns-2 : tie.Need-returns-2 Inv-loop μ-loop
 unfolding listAt
 returns-2 c =
@@ -41,9 +35,6 @@ returns-2 c =
     let h = c .before .before .before .before .before .if1 .left in
     let e = sym (c .before .before .directive-at .ensures) ∙ c .enum-told .given .1 in
     simp (le-ltb, L .inv .3, list-bad d (L .inv .1) (L .at) (c .before .before .before .loop-test .taken) (L .inv .2) e)
-
-enum-known-told : tie.Need-enum-known-told Inv-loop μ-loop
-enum-known-told c = search needs
 
 loop-less : tie.Need-loop-less Inv-loop μ-loop
 loop-less c =
@@ -78,10 +69,10 @@ list-fault-spec =
     μ-loop
     returns
     loop-holds
-    directive-at-requires
-    enum-told
+    (λ c κs. search needs)
+    (λ c. search needs)
     returns-2
-    enum-known-told
+    (λ c. search needs)
     loop-less
     loop-again
     returns-3)

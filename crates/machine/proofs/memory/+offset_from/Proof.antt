@@ -37,24 +37,6 @@ offset-from-returns-2 t c =
     let A = c .before .before .before .args in
     (sym (offset-first (wordsFrom (A .z) (A .t .now) (A .n) (A .b)) (A .a) (c .if2 .taken)), omega arith)
 
-offset-from-words-at-requires : (t : ℕ) → offset-from-lts.Need-words-at-requires (offset-from-claims t) (offset-from-at t) offset-from.Post
-offset-from-words-at-requires t c κs = search needs
-
-offset-from-sub-offset-from : (t : ℕ) → offset-from-lts.Need-sub-offset-from (offset-from-claims t) (offset-from-at t) offset-from.Post
-offset-from-sub-offset-from t c = search needs
-
-offset-from-add-offset-from : (t : ℕ) → offset-from-lts.Need-add-offset-from (offset-from-claims t) (offset-from-at t) offset-from.Post
-offset-from-add-offset-from t c = search needs
-
-offset-from-sub-offset-from-2 : (t : ℕ) → offset-from-lts.Need-sub-offset-from-2 (offset-from-claims t) (offset-from-at t) offset-from.Post
-offset-from-sub-offset-from-2 t c = search needs
-
-offset-from-offset-from-requires : (t : ℕ) → offset-from-lts.Need-offset-from-requires (offset-from-claims t) (offset-from-at t) offset-from.Post
-offset-from-offset-from-requires t c κs = search needs
-
-offset-from-add-result : (t : ℕ) → offset-from-lts.Need-add-result (offset-from-claims t) (offset-from-at t) offset-from.Post
-offset-from-add-result t c = search needs
-
 offset-from-returns-3 : (t : ℕ) → offset-from-lts.Need-returns-3 (offset-from-claims t) (offset-from-at t) offset-from.Post
 offset-from-returns-3 t c =
     let A = c .before .before .before .before .before .args in
@@ -67,10 +49,10 @@ pub +offset-from-spec : {M : Type 1} → statement M
     offset-from.Post
     (offset-from-returns t)
     (offset-from-returns-2 t)
-    (offset-from-words-at-requires t)
-    (offset-from-sub-offset-from t)
-    (offset-from-add-offset-from t)
-    (offset-from-sub-offset-from-2 t)
-    (offset-from-offset-from-requires t)
-    (offset-from-add-result t)
+    (λ c κs. search needs)
+    (λ c. search needs)
+    (λ c. search needs)
+    (λ c. search needs)
+    (λ c κs. search needs)
+    (λ c. search needs)
     (offset-from-returns-3 t)

@@ -31,21 +31,6 @@ total-from-returns t c =
     let A = c .before .before .args in
     (sym (total-none (A .z) (A .t .now) (A .n) (A .a) (c .if1 .taken)), omega arith)
 
-total-from-words-at-requires : (t : ℕ) → total-from-lts.Need-words-at-requires (total-from-claims t) (total-from-at t) total-from.Post
-total-from-words-at-requires t c κs = search needs
-
-total-from-sub-total-from : (t : ℕ) → total-from-lts.Need-sub-total-from (total-from-claims t) (total-from-at t) total-from.Post
-total-from-sub-total-from t c = search needs
-
-total-from-add-total-from : (t : ℕ) → total-from-lts.Need-add-total-from (total-from-claims t) (total-from-at t) total-from.Post
-total-from-add-total-from t c = search needs
-
-total-from-total-from-requires : (t : ℕ) → total-from-lts.Need-total-from-requires (total-from-claims t) (total-from-at t) total-from.Post
-total-from-total-from-requires t c κs = search needs
-
-total-from-add-result : (t : ℕ) → total-from-lts.Need-add-result (total-from-claims t) (total-from-at t) total-from.Post
-total-from-add-result t c = search needs
-
 total-from-returns-2 : (t : ℕ) → total-from-lts.Need-returns-2 (total-from-claims t) (total-from-at t) total-from.Post
 total-from-returns-2 t c =
     let A = c .before .before .before .before .args in
@@ -57,9 +42,9 @@ pub +total-from-spec : {M : Type 1} → statement M
     (total-from-at t)
     total-from.Post
     (total-from-returns t)
-    (total-from-words-at-requires t)
-    (total-from-sub-total-from t)
-    (total-from-add-total-from t)
-    (total-from-total-from-requires t)
-    (total-from-add-result t)
+    (λ c κs. search needs)
+    (λ c. search needs)
+    (λ c. search needs)
+    (λ c κs. search needs)
+    (λ c. search needs)
     (total-from-returns-2 t)

@@ -27,23 +27,8 @@ home-claims t = (start-of-reads.Asked, start-of-reads.Learnt, home-below t, home
 home-returns : (t : ℕ) → home-lts.Need-returns (home-claims t) (home-at t) home.Post
 home-returns t c = home-none (startOf (c .before .before .args .z) (c .before .before .args .t .now)) (c .before .before .args .n) (c .before .before .args .p) (c .if1 .taken)
 
-home-sub-start-of : (t : ℕ) → home-lts.Need-sub-start-of (home-claims t) (home-at t) home.Post
-home-sub-start-of t c = search needs
-
-home-start-of-requires : (t : ℕ) → home-lts.Need-start-of-requires (home-claims t) (home-at t) home.Post
-home-start-of-requires t c κs = search needs
-
-home-sub-result : (t : ℕ) → home-lts.Need-sub-result (home-claims t) (home-at t) home.Post
-home-sub-result t c = search needs
-
 home-returns-2 : (t : ℕ) → home-lts.Need-returns-2 (home-claims t) (home-at t) home.Post
 home-returns-2 t c = home-here (startOf (c .before .before .before .before .args .z) (c .before .before .before .before .args .t .now)) (c .before .before .before .before .args .n) (c .before .before .before .before .args .p) (c .before .before .if1 .left) (subst (λ (i : ℕ). i ≤ c .before .before .before .before .args .p) (c .before .start-of .ensures .0) (c .if2 .taken))
-
-home-sub-home : (t : ℕ) → home-lts.Need-sub-home (home-claims t) (home-at t) home.Post
-home-sub-home t c = search needs
-
-home-home-requires : (t : ℕ) → home-lts.Need-home-requires (home-claims t) (home-at t) home.Post
-home-home-requires t c κs = search needs
 
 home-returns-3 : (t : ℕ) → home-lts.Need-returns-3 (home-claims t) (home-at t) home.Post
 home-returns-3 t c = c .home .ensures ∙ home-before (startOf (c .before .before .before .before .before .args .z) (c .before .before .before .before .before .args .t .now)) (c .before .before .before .before .before .args .n) (c .before .before .before .before .before .args .p) (c .before .before .before .if1 .left) (subst (λ (i : ℕ). c .before .before .before .before .before .args .p < i) (c .before .before .start-of .ensures .0) (c .before .if2 .left))
@@ -53,10 +38,10 @@ pub +home-spec : {M : Type 1} → statement M
     (home-at t)
     home.Post
     (home-returns t)
-    (home-sub-start-of t)
-    (home-start-of-requires t)
-    (home-sub-result t)
+    (λ c. search needs)
+    (λ c κs. search needs)
+    (λ c. search needs)
     (home-returns-2 t)
-    (home-sub-home t)
-    (home-home-requires t)
+    (λ c. search needs)
+    (λ c κs. search needs)
     (home-returns-3 t)

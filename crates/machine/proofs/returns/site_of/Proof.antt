@@ -21,20 +21,8 @@ Inv-loop t z function q c₀ c = markIn (codeFrom (tableWith z t) c₀) function
 abbrev μ-loop : tie.MeasureT-loop
 μ-loop t z function q c₀ c = length t - c
 
-start-of-requires : tie.Need-start-of-requires Inv-loop μ-loop
-start-of-requires c κs = search needs
-
 loop-holds : tie.Need-loop-holds Inv-loop μ-loop
 loop-holds c = refl
-
-record-at-requires : tie.Need-record-at-requires Inv-loop μ-loop
-record-at-requires c κs = search needs
-
-add-if1 : tie.Need-add-if1 Inv-loop μ-loop
-add-if1 c = search needs
-
-mark-of-requires : tie.Need-mark-of-requires Inv-loop μ-loop
-mark-of-requires c κs = search needs
 
 returns : tie.Need-returns Inv-loop μ-loop
 returns c =
@@ -71,11 +59,11 @@ site-of-spec =
     (tie.spec
     Inv-loop
     μ-loop
-    start-of-requires
+    (λ c κs. search needs)
     loop-holds
-    record-at-requires
-    add-if1
-    mark-of-requires
+    (λ c κs. search needs)
+    (λ c. search needs)
+    (λ c κs. search needs)
     returns
     loop-less
     loop-again

@@ -28,9 +28,6 @@ Inv-loop t z regs₀ mem₀ dirs obs₀ s₀ at₀ seen₀ steps₀ regs mem obs
 abbrev μ-loop : tie.MeasureT-loop
 μ-loop t z regs₀ mem₀ dirs obs₀ s₀ at₀ seen₀ steps₀ regs mem obs s at seen steps = length dirs - at
 
-start-requires : tie.Need-start-requires Inv-loop μ-loop
-start-requires c κs = search needs
-
 loop-holds : tie.Need-loop-holds Inv-loop μ-loop
 loop-holds c =
     let a = c .before .before .before .before .before .before .args in
@@ -95,7 +92,7 @@ all-steps-spec =
     (tie.spec
     Inv-loop
     μ-loop
-    start-requires
+    (λ c κs. search needs)
     loop-holds
     one-turn-requires
     same-length

@@ -64,6 +64,12 @@ loop-at-at t = and 1 loop-at-kinds.ps (is 1 loop-at-kinds.ps μ-loop-at t) loop-
 abbrev loop-at-below : ℕ → In 1 loop-at-kinds.ps
 loop-at-below t = and 1 loop-at-kinds.ps (falls 1 loop-at-kinds.ps _<_ μ-loop-at t) loop-at.Pre
 
+abbrev instr-claims : ℕ → instr-lts.Claims
+instr-claims t = (record-reads.Asked, record-reads.Learnt, call-at-reads.Asked, call-at-reads.Learnt, branch-at-below t, branch-at.Post, loop-at-below t, loop-at.Post)
+
+abbrev branch-at-claims : ℕ → branch-at-lts.Claims
+branch-at-claims t = (block-below t, block.Post, place-at-reads.Asked, place-at-reads.Learnt, met-at-reads.Asked, met-at-reads.Learnt)
+
 abbrev block-Inv-loop : block-lts.InvT-loop
 block-Inv-loop t z cur c from depth at₀ at = (k : ℕ) × (length t - at ≤ k) × (blockAt depth cur z t c from ≡ blockWith (instrAt depth cur z t c) k at)
 
@@ -81,26 +87,6 @@ block-loop-holds :
 unfolding blockAt
 block-loop-holds t c =
     let a = c .before .args in (length (a .t .now), omega arith, refl)
-
-block-instr-requires :
-    (t : ℕ) →
-    block-lts.Need-instr-requires
-    (instr-below t, instr.Post)
-    (block-at t)
-    block.Post
-    block-Inv-loop
-    block-μ-loop
-block-instr-requires t c κs = search needs
-
-block-enum-known-one :
-    (t : ℕ) →
-    block-lts.Need-enum-known-one
-    (instr-below t, instr.Post)
-    (block-at t)
-    block.Post
-    block-Inv-loop
-    block-μ-loop
-block-enum-known-one t c = search needs
 
 block-loop-less :
     (t : ℕ) →
@@ -134,16 +120,6 @@ block-loop-again t c =
     let n = turn-next (a .depth) (a .cur) (a .z) (a .t .now) (a .c) (inv .0) at _ e (inv .1) in
     (n .0, n .1, inv .2 ∙ n .2)
 
-block-enum-known-one-2 :
-    (t : ℕ) →
-    block-lts.Need-enum-known-one-2
-    (instr-below t, instr.Post)
-    (block-at t)
-    block.Post
-    block-Inv-loop
-    block-μ-loop
-block-enum-known-one-2 t c = search needs
-
 block-returns :
     (t : ℕ) →
     block-lts.Need-returns
@@ -158,16 +134,6 @@ block-returns t c =
     let inv = c .before .before .before .before .loop .inv in
     let e = sym (c .before .before .before .instr .ensures) ∙ c .before .one2 .given .1 in
     sym (inv .2 ∙ turn-shut (a .depth) (a .cur) (a .z) (a .t .now) (a .c) (inv .0) at _ e (inv .1))
-
-block-enum-known-one-3 :
-    (t : ℕ) →
-    block-lts.Need-enum-known-one-3
-    (instr-below t, instr.Post)
-    (block-at t)
-    block.Post
-    block-Inv-loop
-    block-μ-loop
-block-enum-known-one-3 t c = search needs
 
 block-returns-2 :
     (t : ℕ) →
@@ -184,193 +150,44 @@ block-returns-2 t c =
     let e = sym (c .before .before .before .instr .ensures) ∙ c .before .one3 .given .1 in
     sym (inv .2 ∙ turn-fault (a .depth) (a .cur) (a .z) (a .t .now) (a .c) (inv .0) at _ _ e (inv .1))
 
-branch-at-returns : (t : ℕ) → branch-at-lts.Need-returns (
-  block-below t,
-  block.Post,
-  place-at-reads.Asked,
-  place-at-reads.Learnt,
-  met-at-reads.Asked,
-  met-at-reads.Learnt,
-) (branch-at-at t) branch-at.Post
+branch-at-returns : (t : ℕ) → branch-at-lts.Need-returns (branch-at-claims t) (branch-at-at t) branch-at.Post
 unfolding ifWith
 branch-at-returns t c =
     simp (c .if1 .taken)
 
-branch-at-sub-block : (t : ℕ) → branch-at-lts.Need-sub-block (
-  block-below t,
-  block.Post,
-  place-at-reads.Asked,
-  place-at-reads.Learnt,
-  met-at-reads.Asked,
-  met-at-reads.Learnt,
-) (branch-at-at t) branch-at.Post
-branch-at-sub-block t c = search needs
-
-branch-at-block-requires : (t : ℕ) → branch-at-lts.Need-block-requires (
-  block-below t,
-  block.Post,
-  place-at-reads.Asked,
-  place-at-reads.Learnt,
-  met-at-reads.Asked,
-  met-at-reads.Learnt,
-) (branch-at-at t) branch-at.Post
-branch-at-block-requires t c κs = search needs
-
-branch-at-enum-known-first : (t : ℕ) → branch-at-lts.Need-enum-known-first (
-  block-below t,
-  block.Post,
-  place-at-reads.Asked,
-  place-at-reads.Learnt,
-  met-at-reads.Asked,
-  met-at-reads.Learnt,
-) (branch-at-at t) branch-at.Post
-branch-at-enum-known-first t c = search needs
-
-branch-at-enum-known-first-2 : (t : ℕ) → branch-at-lts.Need-enum-known-first-2 (
-  block-below t,
-  block.Post,
-  place-at-reads.Asked,
-  place-at-reads.Learnt,
-  met-at-reads.Asked,
-  met-at-reads.Learnt,
-) (branch-at-at t) branch-at.Post
-branch-at-enum-known-first-2 t c = search needs
-
-branch-at-returns-2 : (t : ℕ) → branch-at-lts.Need-returns-2 (
-  block-below t,
-  block.Post,
-  place-at-reads.Asked,
-  place-at-reads.Learnt,
-  met-at-reads.Asked,
-  met-at-reads.Learnt,
-) (branch-at-at t) branch-at.Post
+branch-at-returns-2 : (t : ℕ) → branch-at-lts.Need-returns-2 (branch-at-claims t) (branch-at-at t) branch-at.Post
 branch-at-returns-2 t c =
     let a = c .before .before .before .before .before .before .before .args in
     let h = c .before .before .before .before .before .if1 .left in
     let b = sym (c .before .before .before .before .block .ensures) ∙ c .before .before .first2 .given .1 in
     if-missed (a .depth) (a .cur) (a .z) (a .t .now) (a .at) (a .next) (a .to) h b (c .if2 .taken)
 
-branch-at-add-block : (t : ℕ) → branch-at-lts.Need-add-block (
-  block-below t,
-  block.Post,
-  place-at-reads.Asked,
-  place-at-reads.Learnt,
-  met-at-reads.Asked,
-  met-at-reads.Learnt,
-) (branch-at-at t) branch-at.Post
+branch-at-add-block : (t : ℕ) → branch-at-lts.Need-add-block (branch-at-claims t) (branch-at-at t) branch-at.Post
 branch-at-add-block t c =
     let a = c .before .before .before .before .before .before .before .args in
     let w = shut-else (a .depth - 1) (a .cur) (a .z) (a .t .now) (a .next) (sym (c .before .before .before .before .block .ensures) ∙ c .before .before .first2 .given .1) in
     search needs
 
-branch-at-sub-block-2 : (t : ℕ) → branch-at-lts.Need-sub-block-2 (
-  block-below t,
-  block.Post,
-  place-at-reads.Asked,
-  place-at-reads.Learnt,
-  met-at-reads.Asked,
-  met-at-reads.Learnt,
-) (branch-at-at t) branch-at.Post
-branch-at-sub-block-2 t c = search needs
-
-branch-at-block-requires-2 : (t : ℕ) → branch-at-lts.Need-block-requires-2 (
-  block-below t,
-  block.Post,
-  place-at-reads.Asked,
-  place-at-reads.Learnt,
-  met-at-reads.Asked,
-  met-at-reads.Learnt,
-) (branch-at-at t) branch-at.Post
-branch-at-block-requires-2 t c κs = search needs
-
-branch-at-enum-known-second : (t : ℕ) → branch-at-lts.Need-enum-known-second (
-  block-below t,
-  block.Post,
-  place-at-reads.Asked,
-  place-at-reads.Learnt,
-  met-at-reads.Asked,
-  met-at-reads.Learnt,
-) (branch-at-at t) branch-at.Post
-branch-at-enum-known-second t c = search needs
-
-branch-at-enum-known-second-2 : (t : ℕ) → branch-at-lts.Need-enum-known-second-2 (
-  block-below t,
-  block.Post,
-  place-at-reads.Asked,
-  place-at-reads.Learnt,
-  met-at-reads.Asked,
-  met-at-reads.Learnt,
-) (branch-at-at t) branch-at.Post
-branch-at-enum-known-second-2 t c = search needs
-
-branch-at-add-place-at : (t : ℕ) → branch-at-lts.Need-add-place-at (
-  block-below t,
-  block.Post,
-  place-at-reads.Asked,
-  place-at-reads.Learnt,
-  met-at-reads.Asked,
-  met-at-reads.Learnt,
-) (branch-at-at t) branch-at.Post
+branch-at-add-place-at : (t : ℕ) → branch-at-lts.Need-add-place-at (branch-at-claims t) (branch-at-at t) branch-at.Post
 branch-at-add-place-at t c =
     let a = c .before .before .before .before .before .before .before .before .before .before .before .args in
     let w = shut-else (a .depth - 1) (a .cur) (a .z) (a .t .now) (a .next) (sym (c .before .before .before .before .before .before .before .before .block .ensures) ∙ c .before .before .before .before .before .before .first2 .given .1) in
     search needs
 
-branch-at-place-at-requires : (t : ℕ) → branch-at-lts.Need-place-at-requires (
-  block-below t,
-  block.Post,
-  place-at-reads.Asked,
-  place-at-reads.Learnt,
-  met-at-reads.Asked,
-  met-at-reads.Learnt,
-) (branch-at-at t) branch-at.Post
-branch-at-place-at-requires t c κs = search needs
-
-branch-at-add-met-at : (t : ℕ) → branch-at-lts.Need-add-met-at (
-  block-below t,
-  block.Post,
-  place-at-reads.Asked,
-  place-at-reads.Learnt,
-  met-at-reads.Asked,
-  met-at-reads.Learnt,
-) (branch-at-at t) branch-at.Post
+branch-at-add-met-at : (t : ℕ) → branch-at-lts.Need-add-met-at (branch-at-claims t) (branch-at-at t) branch-at.Post
 branch-at-add-met-at t c =
     let a = c .before .before .before .before .before .before .before .before .before .before .before .before .args in
     let w = shut-one (a .depth - 1) (a .cur) (a .z) (a .t .now) 0x22 _ (sym (c .before .before .before .before .block2 .ensures) ∙ c .before .before .second2 .given .1) in
     search needs
 
-branch-at-met-at-requires : (t : ℕ) → branch-at-lts.Need-met-at-requires (
-  block-below t,
-  block.Post,
-  place-at-reads.Asked,
-  place-at-reads.Learnt,
-  met-at-reads.Asked,
-  met-at-reads.Learnt,
-) (branch-at-at t) branch-at.Post
-branch-at-met-at-requires t c κs = search needs
-
-branch-at-returns-3 : (t : ℕ) → branch-at-lts.Need-returns-3 (
-  block-below t,
-  block.Post,
-  place-at-reads.Asked,
-  place-at-reads.Learnt,
-  met-at-reads.Asked,
-  met-at-reads.Learnt,
-) (branch-at-at t) branch-at.Post
+branch-at-returns-3 : (t : ℕ) → branch-at-lts.Need-returns-3 (branch-at-claims t) (branch-at-at t) branch-at.Post
 branch-at-returns-3 t c =
     let a = c .before .before .before .before .before .before .args in
     let h = c .before .before .before .before .if1 .left in
     let b = sym (c .before .before .before .block .ensures) ∙ c .before .first .given .1 in
     if-is (a .depth) (a .cur) (a .z) (a .t .now) (a .at) (a .next) (a .to) h b
 
-branch-at-returns-4 : (t : ℕ) → branch-at-lts.Need-returns-4 (
-  block-below t,
-  block.Post,
-  place-at-reads.Asked,
-  place-at-reads.Learnt,
-  met-at-reads.Asked,
-  met-at-reads.Learnt,
-) (branch-at-at t) branch-at.Post
+branch-at-returns-4 : (t : ℕ) → branch-at-lts.Need-returns-4 (branch-at-claims t) (branch-at-at t) branch-at.Post
 branch-at-returns-4 t c =
     let a = c .before .before .before .before .before .before .before .before .before .before .before .args in
     let h = c .before .before .before .before .before .before .before .before .before .if1 .left in
@@ -378,14 +195,7 @@ branch-at-returns-4 t c =
     let d = sym (c .before .before .before .block2 .ensures) ∙ c .before .second .given .1 in
     if-met (a .depth) (a .cur) (a .z) (a .t .now) (a .at) (a .next) (a .to) h b (c .before .before .before .before .if2 .left) d
 
-branch-at-returns-5 : (t : ℕ) → branch-at-lts.Need-returns-5 (
-  block-below t,
-  block.Post,
-  place-at-reads.Asked,
-  place-at-reads.Learnt,
-  met-at-reads.Asked,
-  met-at-reads.Learnt,
-) (branch-at-at t) branch-at.Post
+branch-at-returns-5 : (t : ℕ) → branch-at-lts.Need-returns-5 (branch-at-claims t) (branch-at-at t) branch-at.Post
 branch-at-returns-5 t c =
     let a = c .before .before .before .before .before .before .before .before .before .before .before .before .before .args in
     let h = c .before .before .before .before .before .before .before .before .before .before .before .if1 .left in
@@ -393,442 +203,91 @@ branch-at-returns-5 t c =
     let d = sym (c .before .before .before .before .before .block2 .ensures) ∙ c .before .before .before .second2 .given .1 in
     rw (c .met-at .ensures, c .before .place-at .ensures .0) (if-met (a .depth) (a .cur) (a .z) (a .t .now) (a .at) (a .next) (a .to) h b (c .before .before .before .before .before .before .if2 .left) d)
 
-instr-record-requires : (t : ℕ) → instr-lts.Need-record-requires (
-  record-reads.Asked,
-  record-reads.Learnt,
-  call-at-reads.Asked,
-  call-at-reads.Learnt,
-  branch-at-below t,
-  branch-at.Post,
-  loop-at-below t,
-  loop-at.Post,
-) (instr-at t) instr.Post
-instr-record-requires t c κs = search needs
-
-instr-enum-known-d : (t : ℕ) → instr-lts.Need-enum-known-d (
-  record-reads.Asked,
-  record-reads.Learnt,
-  call-at-reads.Asked,
-  call-at-reads.Learnt,
-  branch-at-below t,
-  branch-at.Post,
-  loop-at-below t,
-  loop-at.Post,
-) (instr-at t) instr.Post
-instr-enum-known-d t c = search needs
-
-instr-enum-known-d-2 : (t : ℕ) → instr-lts.Need-enum-known-d-2 (
-  record-reads.Asked,
-  record-reads.Learnt,
-  call-at-reads.Asked,
-  call-at-reads.Learnt,
-  branch-at-below t,
-  branch-at.Post,
-  loop-at-below t,
-  loop-at.Post,
-) (instr-at t) instr.Post
-instr-enum-known-d-2 t c = search needs
-
-instr-enum-known-r : (t : ℕ) → instr-lts.Need-enum-known-r (
-  record-reads.Asked,
-  record-reads.Learnt,
-  call-at-reads.Asked,
-  call-at-reads.Learnt,
-  branch-at-below t,
-  branch-at.Post,
-  loop-at-below t,
-  loop-at.Post,
-) (instr-at t) instr.Post
-instr-enum-known-r t c = search needs
-
-instr-enum-known-r-2 : (t : ℕ) → instr-lts.Need-enum-known-r-2 (
-  record-reads.Asked,
-  record-reads.Learnt,
-  call-at-reads.Asked,
-  call-at-reads.Learnt,
-  branch-at-below t,
-  branch-at.Post,
-  loop-at-below t,
-  loop-at.Post,
-) (instr-at t) instr.Post
-instr-enum-known-r-2 t c = search needs
-
-instr-call-at-requires : (t : ℕ) → instr-lts.Need-call-at-requires (
-  record-reads.Asked,
-  record-reads.Learnt,
-  call-at-reads.Asked,
-  call-at-reads.Learnt,
-  branch-at-below t,
-  branch-at.Post,
-  loop-at-below t,
-  loop-at.Post,
-) (instr-at t) instr.Post
-instr-call-at-requires t c κs = search needs
-
-instr-enum-known-r-3 : (t : ℕ) → instr-lts.Need-enum-known-r-3 (
-  record-reads.Asked,
-  record-reads.Learnt,
-  call-at-reads.Asked,
-  call-at-reads.Learnt,
-  branch-at-below t,
-  branch-at.Post,
-  loop-at-below t,
-  loop-at.Post,
-) (instr-at t) instr.Post
-instr-enum-known-r-3 t c = search needs
-
-instr-branch-at-requires : (t : ℕ) → instr-lts.Need-branch-at-requires (
-  record-reads.Asked,
-  record-reads.Learnt,
-  call-at-reads.Asked,
-  call-at-reads.Learnt,
-  branch-at-below t,
-  branch-at.Post,
-  loop-at-below t,
-  loop-at.Post,
-) (instr-at t) instr.Post
-instr-branch-at-requires t c κs = search needs
-
-instr-enum-known-r-4 : (t : ℕ) → instr-lts.Need-enum-known-r-4 (
-  record-reads.Asked,
-  record-reads.Learnt,
-  call-at-reads.Asked,
-  call-at-reads.Learnt,
-  branch-at-below t,
-  branch-at.Post,
-  loop-at-below t,
-  loop-at.Post,
-) (instr-at t) instr.Post
-instr-enum-known-r-4 t c = search needs
-
-instr-enum-told : (t : ℕ) → instr-lts.Need-enum-told (
-  record-reads.Asked,
-  record-reads.Learnt,
-  call-at-reads.Asked,
-  call-at-reads.Learnt,
-  branch-at-below t,
-  branch-at.Post,
-  loop-at-below t,
-  loop-at.Post,
-) (instr-at t) instr.Post
-instr-enum-told t c = search needs
-
-instr-enum-known-r-5 : (t : ℕ) → instr-lts.Need-enum-known-r-5 (
-  record-reads.Asked,
-  record-reads.Learnt,
-  call-at-reads.Asked,
-  call-at-reads.Learnt,
-  branch-at-below t,
-  branch-at.Post,
-  loop-at-below t,
-  loop-at.Post,
-) (instr-at t) instr.Post
-instr-enum-known-r-5 t c = search needs
-
-instr-loop-at-requires : (t : ℕ) → instr-lts.Need-loop-at-requires (
-  record-reads.Asked,
-  record-reads.Learnt,
-  call-at-reads.Asked,
-  call-at-reads.Learnt,
-  branch-at-below t,
-  branch-at.Post,
-  loop-at-below t,
-  loop-at.Post,
-) (instr-at t) instr.Post
-instr-loop-at-requires t c κs = search needs
-
-instr-enum-known-r-6 : (t : ℕ) → instr-lts.Need-enum-known-r-6 (
-  record-reads.Asked,
-  record-reads.Learnt,
-  call-at-reads.Asked,
-  call-at-reads.Learnt,
-  branch-at-below t,
-  branch-at.Post,
-  loop-at-below t,
-  loop-at.Post,
-) (instr-at t) instr.Post
-instr-enum-known-r-6 t c = search needs
-
-instr-enum-told-2 : (t : ℕ) → instr-lts.Need-enum-told-2 (
-  record-reads.Asked,
-  record-reads.Learnt,
-  call-at-reads.Asked,
-  call-at-reads.Learnt,
-  branch-at-below t,
-  branch-at.Post,
-  loop-at-below t,
-  loop-at.Post,
-) (instr-at t) instr.Post
-instr-enum-told-2 t c = search needs
-
-instr-returns : (t : ℕ) → instr-lts.Need-returns (
-  record-reads.Asked,
-  record-reads.Learnt,
-  call-at-reads.Asked,
-  call-at-reads.Learnt,
-  branch-at-below t,
-  branch-at.Post,
-  loop-at-below t,
-  loop-at.Post,
-) (instr-at t) instr.Post
+instr-returns : (t : ℕ) → instr-lts.Need-returns (instr-claims t) (instr-at t) instr.Post
 instr-returns t c =
     let e = sym (c .before .before .before .«record» .ensures) ∙ c .before .d .given .1 in
     simp (instr-is, e)
 
-instr-returns-2 : (t : ℕ) → instr-lts.Need-returns-2 (
-  record-reads.Asked,
-  record-reads.Learnt,
-  call-at-reads.Asked,
-  call-at-reads.Learnt,
-  branch-at-below t,
-  branch-at.Post,
-  loop-at-below t,
-  loop-at.Post,
-) (instr-at t) instr.Post
+instr-returns-2 : (t : ℕ) → instr-lts.Need-returns-2 (instr-claims t) (instr-at t) instr.Post
 instr-returns-2 t c =
     let e = sym (c .before .before .before .before .before .before .«record» .ensures) ∙ c .before .before .before .before .d2 .given .1 in
     let g = c .before .r .given .1 in
     simp (instr-is, e, g)
 
-instr-returns-3 : (t : ℕ) → instr-lts.Need-returns-3 (
-  record-reads.Asked,
-  record-reads.Learnt,
-  call-at-reads.Asked,
-  call-at-reads.Learnt,
-  branch-at-below t,
-  branch-at.Post,
-  loop-at-below t,
-  loop-at.Post,
-) (instr-at t) instr.Post
+instr-returns-3 : (t : ℕ) → instr-lts.Need-returns-3 (instr-claims t) (instr-at t) instr.Post
 instr-returns-3 t c =
     let e = sym (c .before .before .before .before .before .before .before .«record» .ensures) ∙ c .before .before .before .before .before .d2 .given .1 in
     let g = c .before .before .r2 .given .1 in
     simp (instr-is, e, g) (c .call-at .ensures)
 
-instr-returns-4 : (t : ℕ) → instr-lts.Need-returns-4 (
-  record-reads.Asked,
-  record-reads.Learnt,
-  call-at-reads.Asked,
-  call-at-reads.Learnt,
-  branch-at-below t,
-  branch-at.Post,
-  loop-at-below t,
-  loop-at.Post,
-) (instr-at t) instr.Post
+instr-returns-4 : (t : ℕ) → instr-lts.Need-returns-4 (instr-claims t) (instr-at t) instr.Post
 instr-returns-4 t c =
     let e = sym (c .before .before .before .before .before .before .before .«record» .ensures) ∙ c .before .before .before .before .before .d2 .given .1 in
     let g = c .before .before .r3 .given .1 in
     simp (instr-is, e, g) (c .branch-at .ensures)
 
-instr-returns-5 : (t : ℕ) → instr-lts.Need-returns-5 (
-  record-reads.Asked,
-  record-reads.Learnt,
-  call-at-reads.Asked,
-  call-at-reads.Learnt,
-  branch-at-below t,
-  branch-at.Post,
-  loop-at-below t,
-  loop-at.Post,
-) (instr-at t) instr.Post
+instr-returns-5 : (t : ℕ) → instr-lts.Need-returns-5 (instr-claims t) (instr-at t) instr.Post
 instr-returns-5 t c =
     let e = sym (c .before .before .before .before .before .before .«record» .ensures) ∙ c .before .before .before .before .d2 .given .1 in
     let g = c .before .r4 .given .1 in
     simp (instr-is, e, g)
 
-instr-returns-6 : (t : ℕ) → instr-lts.Need-returns-6 (
-  record-reads.Asked,
-  record-reads.Learnt,
-  call-at-reads.Asked,
-  call-at-reads.Learnt,
-  branch-at-below t,
-  branch-at.Post,
-  loop-at-below t,
-  loop-at.Post,
-) (instr-at t) instr.Post
+instr-returns-6 : (t : ℕ) → instr-lts.Need-returns-6 (instr-claims t) (instr-at t) instr.Post
 instr-returns-6 t c =
     let e = sym (c .before .before .before .before .before .«record» .ensures) ∙ c .before .before .before .d2 .given .1 in
     let g = c .enum-told .given .1 in
     simp (instr-is, e, g)
 
-instr-returns-7 : (t : ℕ) → instr-lts.Need-returns-7 (
-  record-reads.Asked,
-  record-reads.Learnt,
-  call-at-reads.Asked,
-  call-at-reads.Learnt,
-  branch-at-below t,
-  branch-at.Post,
-  loop-at-below t,
-  loop-at.Post,
-) (instr-at t) instr.Post
+instr-returns-7 : (t : ℕ) → instr-lts.Need-returns-7 (instr-claims t) (instr-at t) instr.Post
 instr-returns-7 t c =
     let e = sym (c .before .before .before .before .before .before .before .«record» .ensures) ∙ c .before .before .before .before .before .d2 .given .1 in
     let g = c .before .before .r5 .given .1 in
     simp (instr-is, e, g) (c .loop-at .ensures)
 
-instr-returns-8 : (t : ℕ) → instr-lts.Need-returns-8 (
-  record-reads.Asked,
-  record-reads.Learnt,
-  call-at-reads.Asked,
-  call-at-reads.Learnt,
-  branch-at-below t,
-  branch-at.Post,
-  loop-at-below t,
-  loop-at.Post,
-) (instr-at t) instr.Post
+instr-returns-8 : (t : ℕ) → instr-lts.Need-returns-8 (instr-claims t) (instr-at t) instr.Post
 instr-returns-8 t c =
     let e = sym (c .before .before .before .before .before .before .«record» .ensures) ∙ c .before .before .before .before .d2 .given .1 in
     let g = c .before .r6 .given .1 in
     simp (instr-is, e, g)
 
-instr-returns-9 : (t : ℕ) → instr-lts.Need-returns-9 (
-  record-reads.Asked,
-  record-reads.Learnt,
-  call-at-reads.Asked,
-  call-at-reads.Learnt,
-  branch-at-below t,
-  branch-at.Post,
-  loop-at-below t,
-  loop-at.Post,
-) (instr-at t) instr.Post
+instr-returns-9 : (t : ℕ) → instr-lts.Need-returns-9 (instr-claims t) (instr-at t) instr.Post
 instr-returns-9 t c =
     let e = sym (c .before .before .before .before .before .«record» .ensures) ∙ c .before .before .before .d2 .given .1 in
     let g = c .enum-told2 .given .1 in
     simp (instr-is, e, g)
 
-loop-at-returns : (t : ℕ) → loop-at-lts.Need-returns (
-  block-below t,
-  block.Post,
-  place-at-reads.Asked,
-  place-at-reads.Learnt,
-  met-at-reads.Asked,
-  met-at-reads.Learnt,
-) (loop-at-at t) loop-at.Post
+loop-at-returns : (t : ℕ) → loop-at-lts.Need-returns (branch-at-claims t) (loop-at-at t) loop-at.Post
 unfolding whileWith
 loop-at-returns t c =
     simp (c .if1 .taken)
 
-loop-at-sub-block : (t : ℕ) → loop-at-lts.Need-sub-block (
-  block-below t,
-  block.Post,
-  place-at-reads.Asked,
-  place-at-reads.Learnt,
-  met-at-reads.Asked,
-  met-at-reads.Learnt,
-) (loop-at-at t) loop-at.Post
-loop-at-sub-block t c = search needs
-
-loop-at-block-requires : (t : ℕ) → loop-at-lts.Need-block-requires (
-  block-below t,
-  block.Post,
-  place-at-reads.Asked,
-  place-at-reads.Learnt,
-  met-at-reads.Asked,
-  met-at-reads.Learnt,
-) (loop-at-at t) loop-at.Post
-loop-at-block-requires t c κs = search needs
-
-loop-at-enum-known-body : (t : ℕ) → loop-at-lts.Need-enum-known-body (
-  block-below t,
-  block.Post,
-  place-at-reads.Asked,
-  place-at-reads.Learnt,
-  met-at-reads.Asked,
-  met-at-reads.Learnt,
-) (loop-at-at t) loop-at.Post
-loop-at-enum-known-body t c = search needs
-
-loop-at-enum-known-body-2 : (t : ℕ) → loop-at-lts.Need-enum-known-body-2 (
-  block-below t,
-  block.Post,
-  place-at-reads.Asked,
-  place-at-reads.Learnt,
-  met-at-reads.Asked,
-  met-at-reads.Learnt,
-) (loop-at-at t) loop-at.Post
-loop-at-enum-known-body-2 t c = search needs
-
-loop-at-returns-2 : (t : ℕ) → loop-at-lts.Need-returns-2 (
-  block-below t,
-  block.Post,
-  place-at-reads.Asked,
-  place-at-reads.Learnt,
-  met-at-reads.Asked,
-  met-at-reads.Learnt,
-) (loop-at-at t) loop-at.Post
+loop-at-returns-2 : (t : ℕ) → loop-at-lts.Need-returns-2 (branch-at-claims t) (loop-at-at t) loop-at.Post
 loop-at-returns-2 t c =
     let a = c .before .before .before .before .before .before .before .args in
     let h = c .before .before .before .before .before .if1 .left in
     let b = sym (c .before .before .before .before .block .ensures) ∙ c .before .before .body2 .given .1 in
     while-missed (a .depth) (a .cur) (a .z) (a .t .now) (a .at) (a .next) (a .to) h b (c .if2 .taken)
 
-loop-at-add-place-at : (t : ℕ) → loop-at-lts.Need-add-place-at (
-  block-below t,
-  block.Post,
-  place-at-reads.Asked,
-  place-at-reads.Learnt,
-  met-at-reads.Asked,
-  met-at-reads.Learnt,
-) (loop-at-at t) loop-at.Post
+loop-at-add-place-at : (t : ℕ) → loop-at-lts.Need-add-place-at (branch-at-claims t) (loop-at-at t) loop-at.Post
 loop-at-add-place-at t c =
     let a = c .before .before .before .before .before .before .before .args in
     let w = shut-endwhile (a .depth - 1) (a .cur) (a .z) (a .t .now) (a .next) (sym (c .before .before .before .before .block .ensures) ∙ c .before .before .body2 .given .1) in
     search needs
 
-loop-at-place-at-requires : (t : ℕ) → loop-at-lts.Need-place-at-requires (
-  block-below t,
-  block.Post,
-  place-at-reads.Asked,
-  place-at-reads.Learnt,
-  met-at-reads.Asked,
-  met-at-reads.Learnt,
-) (loop-at-at t) loop-at.Post
-loop-at-place-at-requires t c κs = search needs
-
-loop-at-add-met-at : (t : ℕ) → loop-at-lts.Need-add-met-at (
-  block-below t,
-  block.Post,
-  place-at-reads.Asked,
-  place-at-reads.Learnt,
-  met-at-reads.Asked,
-  met-at-reads.Learnt,
-) (loop-at-at t) loop-at.Post
+loop-at-add-met-at : (t : ℕ) → loop-at-lts.Need-add-met-at (branch-at-claims t) (loop-at-at t) loop-at.Post
 loop-at-add-met-at t c =
     let a = c .before .before .before .before .before .before .before .before .args in
     let w = shut-endwhile (a .depth - 1) (a .cur) (a .z) (a .t .now) (a .next) (sym (c .before .before .before .before .before .block .ensures) ∙ c .before .before .before .body2 .given .1) in
     search needs
 
-loop-at-met-at-requires : (t : ℕ) → loop-at-lts.Need-met-at-requires (
-  block-below t,
-  block.Post,
-  place-at-reads.Asked,
-  place-at-reads.Learnt,
-  met-at-reads.Asked,
-  met-at-reads.Learnt,
-) (loop-at-at t) loop-at.Post
-loop-at-met-at-requires t c κs = search needs
-
-loop-at-returns-3 : (t : ℕ) → loop-at-lts.Need-returns-3 (
-  block-below t,
-  block.Post,
-  place-at-reads.Asked,
-  place-at-reads.Learnt,
-  met-at-reads.Asked,
-  met-at-reads.Learnt,
-) (loop-at-at t) loop-at.Post
+loop-at-returns-3 : (t : ℕ) → loop-at-lts.Need-returns-3 (branch-at-claims t) (loop-at-at t) loop-at.Post
 loop-at-returns-3 t c =
     let a = c .before .before .before .before .before .before .args in
     let h = c .before .before .before .before .if1 .left in
     let b = sym (c .before .before .before .block .ensures) ∙ c .before .body .given .1 in
     while-is (a .depth) (a .cur) (a .z) (a .t .now) (a .at) (a .next) (a .to) h b
 
-loop-at-returns-4 : (t : ℕ) → loop-at-lts.Need-returns-4 (
-  block-below t,
-  block.Post,
-  place-at-reads.Asked,
-  place-at-reads.Learnt,
-  met-at-reads.Asked,
-  met-at-reads.Learnt,
-) (loop-at-at t) loop-at.Post
+loop-at-returns-4 : (t : ℕ) → loop-at-lts.Need-returns-4 (branch-at-claims t) (loop-at-at t) loop-at.Post
 loop-at-returns-4 t c =
     let a = c .before .before .before .before .before .before .before .before .before .args in
     let h = c .before .before .before .before .before .before .before .if1 .left in
@@ -849,68 +308,52 @@ pub +block+branch-at+instr+loop-at-spec : {M : Type 1} → statement M
     block-Inv-loop
     block-μ-loop
     (block-loop-holds t)
-    (block-instr-requires t)
-    (block-enum-known-one t)
+    (λ c κs. search needs)
+    (λ c. search needs)
     (block-loop-less t)
     (block-loop-again t)
-    (block-enum-known-one-2 t)
+    (λ c. search needs)
     (block-returns t)
-    (block-enum-known-one-3 t)
+    (λ c. search needs)
     (block-returns-2 t))
-    (λ t. branch-at-lts.spec (
-      block-below t,
-      block.Post,
-      place-at-reads.Asked,
-      place-at-reads.Learnt,
-      met-at-reads.Asked,
-      met-at-reads.Learnt,
-    )
+    (λ t. branch-at-lts.spec (branch-at-claims t)
     (branch-at-at t)
     branch-at.Post
     (branch-at-returns t)
-    (branch-at-sub-block t)
-    (branch-at-block-requires t)
-    (branch-at-enum-known-first t)
-    (branch-at-enum-known-first-2 t)
+    (λ c. search needs)
+    (λ c κs. search needs)
+    (λ c. search needs)
+    (λ c. search needs)
     (branch-at-returns-2 t)
     (branch-at-add-block t)
-    (branch-at-sub-block-2 t)
-    (branch-at-block-requires-2 t)
-    (branch-at-enum-known-second t)
-    (branch-at-enum-known-second-2 t)
+    (λ c. search needs)
+    (λ c κs. search needs)
+    (λ c. search needs)
+    (λ c. search needs)
     (branch-at-add-place-at t)
-    (branch-at-place-at-requires t)
+    (λ c κs. search needs)
     (branch-at-add-met-at t)
-    (branch-at-met-at-requires t)
+    (λ c κs. search needs)
     (branch-at-returns-3 t)
     (branch-at-returns-4 t)
     (branch-at-returns-5 t))
-    (λ t. instr-lts.spec (
-      record-reads.Asked,
-      record-reads.Learnt,
-      call-at-reads.Asked,
-      call-at-reads.Learnt,
-      branch-at-below t,
-      branch-at.Post,
-      loop-at-below t,
-      loop-at.Post,
-    )
+    (λ t. instr-lts.spec (instr-claims t)
     (instr-at t)
     instr.Post
-    (instr-record-requires t)
-    (instr-enum-known-d t)
-    (instr-enum-known-d-2 t)
-    (instr-enum-known-r t)
-    (instr-enum-known-r-2 t)
-    (instr-call-at-requires t)
-    (instr-enum-known-r-3 t)
-    (instr-branch-at-requires t)
-    (instr-enum-known-r-4 t)
-    (instr-enum-told t)
-    (instr-enum-known-r-5 t)
-    (instr-loop-at-requires t)
-    (instr-enum-known-r-6 t)
-    (instr-enum-told-2 t)
+    (λ c κs. search needs)
+    (λ c. search needs)
+    (λ c. search needs)
+    (λ c. search needs)
+    (λ c. search needs)
+    (λ c κs. search needs)
+    (λ c. search needs)
+    (λ c κs. search needs)
+    (λ c. search needs)
+    (λ c. search needs)
+    (λ c. search needs)
+    (λ c κs. search needs)
+    (λ c. search needs)
+    (λ c. search needs)
     (instr-returns t)
     (instr-returns-2 t)
     (instr-returns-3 t)
@@ -920,25 +363,18 @@ pub +block+branch-at+instr+loop-at-spec : {M : Type 1} → statement M
     (instr-returns-7 t)
     (instr-returns-8 t)
     (instr-returns-9 t))
-    λ t. loop-at-lts.spec (
-      block-below t,
-      block.Post,
-      place-at-reads.Asked,
-      place-at-reads.Learnt,
-      met-at-reads.Asked,
-      met-at-reads.Learnt,
-    )
+    λ t. loop-at-lts.spec (branch-at-claims t)
     (loop-at-at t)
     loop-at.Post
     (loop-at-returns t)
-    (loop-at-sub-block t)
-    (loop-at-block-requires t)
-    (loop-at-enum-known-body t)
-    (loop-at-enum-known-body-2 t)
+    (λ c. search needs)
+    (λ c κs. search needs)
+    (λ c. search needs)
+    (λ c. search needs)
     (loop-at-returns-2 t)
     (loop-at-add-place-at t)
-    (loop-at-place-at-requires t)
+    (λ c κs. search needs)
     (loop-at-add-met-at t)
-    (loop-at-met-at-requires t)
+    (λ c κs. search needs)
     (loop-at-returns-3 t)
     (loop-at-returns-4 t)

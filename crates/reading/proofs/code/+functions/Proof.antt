@@ -26,137 +26,45 @@ abbrev functions-below : ℕ → In 1 functions-kinds.ps
 functions-below t =
     and 1 functions-kinds.ps (falls 1 functions-kinds.ps _<_ μ-functions t) functions.Pre
 
-functions-returns : (t : ℕ) → functions-lts.Need-returns (
-  less-reads.Asked,
-  less-reads.Learnt,
-  function-reads.Asked,
-  function-reads.Learnt,
-  functions-below t,
-  functions.Post,
-) (functions-at t) functions.Post
+abbrev functions-claims : ℕ → functions-lts.Claims
+functions-claims t = (less-reads.Asked, less-reads.Learnt, function-reads.Asked, function-reads.Learnt, functions-below t, functions.Post)
+
+functions-returns : (t : ℕ) → functions-lts.Need-returns (functions-claims t) (functions-at t) functions.Post
 unfolding functionsAt
 functions-returns t c =
     let h = c .if2 .taken in
     simp (c .before .if1 .taken, eq-eqb)
 
-functions-returns-2 : (t : ℕ) → functions-lts.Need-returns-2 (
-  less-reads.Asked,
-  less-reads.Learnt,
-  function-reads.Asked,
-  function-reads.Learnt,
-  functions-below t,
-  functions.Post,
-) (functions-at t) functions.Post
+functions-returns-2 : (t : ℕ) → functions-lts.Need-returns-2 (functions-claims t) (functions-at t) functions.Post
 unfolding functionsAt
 functions-returns-2 t c =
     let a = c .before .before .before .args in
     let h : a .at ≡ length (a .t .now) → ⊥ = λ e. omega (arith, c .if2 .left, e) in
     simp (c .before .if1 .taken, ne-eqb)
 
-functions-less-requires : (t : ℕ) → functions-lts.Need-less-requires (
-  less-reads.Asked,
-  less-reads.Learnt,
-  function-reads.Asked,
-  function-reads.Learnt,
-  functions-below t,
-  functions.Post,
-) (functions-at t) functions.Post
-functions-less-requires t c κs = search needs
-
-functions-function-requires : (t : ℕ) → functions-lts.Need-function-requires (
-  less-reads.Asked,
-  less-reads.Learnt,
-  function-reads.Asked,
-  function-reads.Learnt,
-  functions-below t,
-  functions.Post,
-) (functions-at t) functions.Post
-functions-function-requires t c κs = search needs
-
-functions-enum-known-one : (t : ℕ) → functions-lts.Need-enum-known-one (
-  less-reads.Asked,
-  less-reads.Learnt,
-  function-reads.Asked,
-  function-reads.Learnt,
-  functions-below t,
-  functions.Post,
-) (functions-at t) functions.Post
-functions-enum-known-one t c = search needs
-
-functions-sub-functions : (t : ℕ) → functions-lts.Need-sub-functions (
-  less-reads.Asked,
-  less-reads.Learnt,
-  function-reads.Asked,
-  function-reads.Learnt,
-  functions-below t,
-  functions.Post,
-) (functions-at t) functions.Post
-functions-sub-functions t c = search needs
-
-functions-functions-requires : (t : ℕ) → functions-lts.Need-functions-requires (
-  less-reads.Asked,
-  less-reads.Learnt,
-  function-reads.Asked,
-  function-reads.Learnt,
-  functions-below t,
-  functions.Post,
-) (functions-at t) functions.Post
-functions-functions-requires t c κs = search needs
-
-functions-enum-known-one-2 : (t : ℕ) → functions-lts.Need-enum-known-one-2 (
-  less-reads.Asked,
-  less-reads.Learnt,
-  function-reads.Asked,
-  function-reads.Learnt,
-  functions-below t,
-  functions.Post,
-) (functions-at t) functions.Post
-functions-enum-known-one-2 t c = search needs
-
-functions-returns-3 : (t : ℕ) → functions-lts.Need-returns-3 (
-  less-reads.Asked,
-  less-reads.Learnt,
-  function-reads.Asked,
-  function-reads.Learnt,
-  functions-below t,
-  functions.Post,
-) (functions-at t) functions.Post
+functions-returns-3 : (t : ℕ) → functions-lts.Need-returns-3 (functions-claims t) (functions-at t) functions.Post
 functions-returns-3 t c =
     let h = c .before .before .before .before .before .before .if1 .left in
     let e = simp (c .before .before .before .before .before .less .ensures) at (sym (c .before .before .before .before .function .ensures) ∙ c .before .before .one .given .1) in
     simp (functions-is, e) (c .functions .ensures)
 
-functions-returns-4 : (t : ℕ) → functions-lts.Need-returns-4 (
-  less-reads.Asked,
-  less-reads.Learnt,
-  function-reads.Asked,
-  function-reads.Learnt,
-  functions-below t,
-  functions.Post,
-) (functions-at t) functions.Post
+functions-returns-4 : (t : ℕ) → functions-lts.Need-returns-4 (functions-claims t) (functions-at t) functions.Post
 functions-returns-4 t c =
     let h = c .before .before .before .before .before .if1 .left in
     let e = simp (c .before .before .before .before .less .ensures) at (sym (c .before .before .before .function .ensures) ∙ c .before .one2 .given .1) in
     simp (functions-is, e)
 
 pub +functions-spec : {M : Type 1} → statement M
-+functions-spec = close μ-functions λ t. functions-lts.spec (
-  less-reads.Asked,
-  less-reads.Learnt,
-  function-reads.Asked,
-  function-reads.Learnt,
-  functions-below t,
-  functions.Post,
-)
++functions-spec = close μ-functions λ t. functions-lts.spec (functions-claims t)
     (functions-at t)
     functions.Post
     (functions-returns t)
     (functions-returns-2 t)
-    (functions-less-requires t)
-    (functions-function-requires t)
-    (functions-enum-known-one t)
-    (functions-sub-functions t)
-    (functions-functions-requires t)
-    (functions-enum-known-one-2 t)
+    (λ c κs. search needs)
+    (λ c κs. search needs)
+    (λ c. search needs)
+    (λ c. search needs)
+    (λ c κs. search needs)
+    (λ c. search needs)
     (functions-returns-3 t)
     (functions-returns-4 t)

@@ -11,33 +11,12 @@ use Rattle.layout.proofs.start_of.Reads as start-of-reads
 use Rattle.reading.proofs.code.block.Reads as block-reads
 use Rattle.reading.proofs.code.record.Reads as record-reads
 
-record-requires : tie.Need-record-requires
-record-requires c κs = search needs
-
-enum-known-d : tie.Need-enum-known-d
-enum-known-d c = search needs
-
-enum-known-d-2 : tie.Need-enum-known-d-2
-enum-known-d-2 c = search needs
-
-start-of-requires : tie.Need-start-of-requires
-start-of-requires c κs = search needs
-
 returns : tie.Need-returns
 unfolding functionAt
 returns c =
     let e = sym (c .before .before .before .before .before .«record» .ensures) ∙ c .before .before .before .d2 .given .1 in
     let k = simp (c .before .start-of .ensures .0) at (c .if1 .taken) in
     simp (e, ne-eqb)
-
-block-requires : tie.Need-block-requires
-block-requires c κs = search needs
-
-enum-known-b : tie.Need-enum-known-b
-enum-known-b c = search needs
-
-enum-known-b-2 : tie.Need-enum-known-b-2
-enum-known-b-2 c = search needs
 
 add-t18 : tie.Need-add-t18
 add-t18 c =
@@ -71,14 +50,14 @@ pub function-spec : {M : Type 1} → statement M
 function-spec =
     tie.close
     (tie.spec
-    record-requires
-    enum-known-d
-    enum-known-d-2
-    start-of-requires
+    (λ c κs. search needs)
+    (λ c. search needs)
+    (λ c. search needs)
+    (λ c κs. search needs)
     returns
-    block-requires
-    enum-known-b
-    enum-known-b-2
+    (λ c κs. search needs)
+    (λ c. search needs)
+    (λ c. search needs)
     add-t18
     returns-2
     returns-3

@@ -15,15 +15,6 @@ returns c =
     let h = c .if1 .taken in
     simp le-leb
 
-shared-slice-read-k : tie.Need-shared-slice-read-k
-shared-slice-read-k c = search needs
-
-allowed-here-requires : tie.Need-allowed-here-requires
-allowed-here-requires c κs = search needs
-
-decode-requires : tie.Need-decode-requires
-decode-requires c κs = search needs
-
 returns-2 : tie.Need-returns-2
 unfolding recordAt
 returns-2 c =
@@ -43,8 +34,8 @@ record-spec =
     tie.close
     (tie.spec
     returns
-    shared-slice-read-k
-    allowed-here-requires
-    decode-requires
+    (λ c. search needs)
+    (λ c κs. search needs)
+    (λ c κs. search needs)
     returns-2
     returns-3)

@@ -33,21 +33,6 @@ put-digits-returns t c =
     let z = dig-none (a .k) (a .n) (c .if1 .taken) in
     rw z (omega arith, omega arith, refl)
 
-put-digits-cast-put : (t : ℕ) → put-digits-lts.Need-cast-put (put-digits-claims t) (put-digits-at t) put-digits.Post
-put-digits-cast-put t c = search needs
-
-put-digits-add-put : (t : ℕ) → put-digits-lts.Need-add-put (put-digits-claims t) (put-digits-at t) put-digits.Post
-put-digits-add-put t c = search needs
-
-put-digits-put-requires : (t : ℕ) → put-digits-lts.Need-put-requires (put-digits-claims t) (put-digits-at t) put-digits.Post
-put-digits-put-requires t c κs = search needs
-
-put-digits-add-result : (t : ℕ) → put-digits-lts.Need-add-result (put-digits-claims t) (put-digits-at t) put-digits.Post
-put-digits-add-result t c = search needs
-
-put-digits-same-length : (t : ℕ) → put-digits-lts.Need-same-length (put-digits-claims t) (put-digits-at t) put-digits.Post
-put-digits-same-length t c = search needs
-
 put-digits-returns-2 : (t : ℕ) → put-digits-lts.Need-returns-2 (put-digits-claims t) (put-digits-at t) put-digits.Post
 put-digits-returns-2 t c =
     let a = c .before .before .before .before .before .before .before .args in
@@ -55,27 +40,6 @@ put-digits-returns-2 t c =
     let m : a .n % 256 ≡ a .n = omega arith in
     let k = c .before .before .before .before .before .if1 .left in
     rw z (refl, omega arith, c .before .before .put .ensures ∙ rw m)
-
-put-digits-sub-put-digits : (t : ℕ) → put-digits-lts.Need-sub-put-digits (put-digits-claims t) (put-digits-at t) put-digits.Post
-put-digits-sub-put-digits t c = search needs
-
-put-digits-put-digits-requires : (t : ℕ) → put-digits-lts.Need-put-digits-requires (put-digits-claims t) (put-digits-at t) put-digits.Post
-put-digits-put-digits-requires t c κs = search needs
-
-put-digits-cast-put-2 : (t : ℕ) → put-digits-lts.Need-cast-put-2 (put-digits-claims t) (put-digits-at t) put-digits.Post
-put-digits-cast-put-2 t c = search needs
-
-put-digits-add-put-2 : (t : ℕ) → put-digits-lts.Need-add-put-2 (put-digits-claims t) (put-digits-at t) put-digits.Post
-put-digits-add-put-2 t c = search needs
-
-put-digits-put-requires-2 : (t : ℕ) → put-digits-lts.Need-put-requires-2 (put-digits-claims t) (put-digits-at t) put-digits.Post
-put-digits-put-requires-2 t c κs = search needs
-
-put-digits-add-result-2 : (t : ℕ) → put-digits-lts.Need-add-result-2 (put-digits-claims t) (put-digits-at t) put-digits.Post
-put-digits-add-result-2 t c = search needs
-
-put-digits-same-length-2 : (t : ℕ) → put-digits-lts.Need-same-length-2 (put-digits-claims t) (put-digits-at t) put-digits.Post
-put-digits-same-length-2 t c = search needs
 
 put-digits-returns-3 : (t : ℕ) → put-digits-lts.Need-returns-3 (put-digits-claims t) (put-digits-at t) put-digits.Post
 put-digits-returns-3 t c =
@@ -89,17 +53,17 @@ pub +put-digits-spec : {M : Type 1} → statement M
     (put-digits-at t)
     put-digits.Post
     (put-digits-returns t)
-    (put-digits-cast-put t)
-    (put-digits-add-put t)
-    (put-digits-put-requires t)
-    (put-digits-add-result t)
-    (put-digits-same-length t)
+    (λ c. search needs)
+    (λ c. search needs)
+    (λ c κs. search needs)
+    (λ c. search needs)
+    (λ c. search needs)
     (put-digits-returns-2 t)
-    (put-digits-sub-put-digits t)
-    (put-digits-put-digits-requires t)
-    (put-digits-cast-put-2 t)
-    (put-digits-add-put-2 t)
-    (put-digits-put-requires-2 t)
-    (put-digits-add-result-2 t)
-    (put-digits-same-length-2 t)
+    (λ c. search needs)
+    (λ c κs. search needs)
+    (λ c. search needs)
+    (λ c. search needs)
+    (λ c κs. search needs)
+    (λ c. search needs)
+    (λ c. search needs)
     (put-digits-returns-3 t)

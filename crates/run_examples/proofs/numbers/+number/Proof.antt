@@ -29,22 +29,6 @@ number-returns-2 :
     (t : ℕ) → number-lts.Need-returns-2 (number-below t, number.Post) (number-at t) number.Post
 number-returns-2 t c = search needs
 
-number-add-number :
-    (t : ℕ) → number-lts.Need-add-number (number-below t, number.Post) (number-at t) number.Post
-number-add-number t c = search needs
-
-number-sub-number :
-    (t : ℕ) → number-lts.Need-sub-number (number-below t, number.Post) (number-at t) number.Post
-number-sub-number t c = search needs
-
-number-number-requires :
-    (t : ℕ) →
-    number-lts.Need-number-requires (number-below t, number.Post) (number-at t) number.Post
-number-number-requires t c κs = search needs
-
-number-shared-slice-read-result : (t : ℕ) → number-lts.Need-shared-slice-read-result (number-claims t) (number-at t) number.Post
-number-shared-slice-read-result t c = search needs
-
 number-cast-result :
     (t : ℕ) → number-lts.Need-cast-result (number-below t, number.Post) (number-at t) number.Post
 number-cast-result t c =
@@ -64,9 +48,9 @@ pub +number-spec : {M : Type 1} → statement M
     number.Post
     (number-returns t)
     (number-returns-2 t)
-    (number-add-number t)
-    (number-sub-number t)
-    (number-number-requires t)
-    (number-shared-slice-read-result t)
+    (λ c. search needs)
+    (λ c. search needs)
+    (λ c κs. search needs)
+    (λ c. search needs)
     (number-cast-result t)
     (number-returns-3 t)

@@ -15,29 +15,8 @@ abbrev μ-loop : tie.MeasureT-loop
 loop-holds : tie.Need-loop-holds Inv-loop μ-loop
 loop-holds c = (omega arith, refl, omega arith)
 
-number-requires : tie.Need-number-requires Inv-loop μ-loop
-number-requires c κs = search needs
-
-mul-to : tie.Need-mul-to Inv-loop μ-loop
-mul-to c = search needs
-
-slice-write-to : tie.Need-slice-write-to Inv-loop μ-loop
-slice-write-to c = search needs
-
-add-at : tie.Need-add-at Inv-loop μ-loop
-add-at c = search needs
-
-add-i : tie.Need-add-i Inv-loop μ-loop
-add-i c = search needs
-
-loop-less : tie.Need-loop-less Inv-loop μ-loop
-loop-less c = search needs
-
 loop-again : tie.Need-loop-again Inv-loop μ-loop
 loop-again c = (search needs, search needs, search needs)
-
-same-length : tie.Need-same-length Inv-loop μ-loop
-same-length c = search needs
 
 returns : tie.Need-returns Inv-loop μ-loop
 returns c = search needs
@@ -49,12 +28,12 @@ numbers-spec =
     Inv-loop
     μ-loop
     loop-holds
-    number-requires
-    mul-to
-    slice-write-to
-    add-at
-    add-i
-    loop-less
+    (λ c κs. search needs)
+    (λ c. search needs)
+    (λ c. search needs)
+    (λ c. search needs)
+    (λ c. search needs)
+    (λ c. search needs)
     loop-again
-    same-length
+    (λ c. search needs)
     returns)

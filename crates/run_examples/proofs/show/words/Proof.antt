@@ -11,35 +11,8 @@ Inv-loop name s i₀ i = i ≤ length s
 abbrev μ-loop : tie.MeasureT-loop
 μ-loop name s i₀ i = length s - i
 
-write-all-requires : tie.Need-write-all-requires Inv-loop μ-loop
-write-all-requires c κs = search needs
-
-loop-holds : tie.Need-loop-holds Inv-loop μ-loop
-loop-holds c = search needs
-
-mul-spaced : tie.Need-mul-spaced Inv-loop μ-loop
-mul-spaced c = search needs
-
-shared-slice-read-spaced : tie.Need-shared-slice-read-spaced Inv-loop μ-loop
-shared-slice-read-spaced c = search needs
-
 cast-spaced : tie.Need-cast-spaced Inv-loop μ-loop
 cast-spaced c = omega (arith, c .shared-slice-known3 .given (c .before .before .loop .i))
-
-spaced-requires : tie.Need-spaced-requires Inv-loop μ-loop
-spaced-requires c κs = search needs
-
-add-i : tie.Need-add-i Inv-loop μ-loop
-add-i c = search needs
-
-loop-less : tie.Need-loop-less Inv-loop μ-loop
-loop-less c = search needs
-
-loop-again : tie.Need-loop-again Inv-loop μ-loop
-loop-again c = search needs
-
-ended-requires : tie.Need-ended-requires Inv-loop μ-loop
-ended-requires c κs = search needs
 
 returns : tie.Need-returns Inv-loop μ-loop
 returns c = search needs
@@ -50,14 +23,14 @@ words-spec =
     (tie.spec
     Inv-loop
     μ-loop
-    write-all-requires
-    loop-holds
-    mul-spaced
-    shared-slice-read-spaced
+    (λ c κs. search needs)
+    (λ c. search needs)
+    (λ c. search needs)
+    (λ c. search needs)
     cast-spaced
-    spaced-requires
-    add-i
-    loop-less
-    loop-again
-    ended-requires
+    (λ c κs. search needs)
+    (λ c. search needs)
+    (λ c. search needs)
+    (λ c. search needs)
+    (λ c κs. search needs)
     returns)
