@@ -31,7 +31,7 @@ use Rattle.machine.specs.declared.Outcome.the-variants.{Stopped}
 use Rattle.machine.specs.Directives.{directiveAt, directivesFrom, bytesOf, allBytes}
 use Rattle.machine.specs.States.{words, length-stack, ctlOf, dataOf}
 use Rattle.machine.specs.Runs.{ran, total, ranFrom}
-use Rattle.machine.specs.Turns.{Lent, Ready, TurnMoves, TurnHalts}
+use Rattle.machine.specs.Turns.{Lent, Runnable, TurnMoves, TurnHalts}
 
 four : {A : Type 0} (f : List ℕ → ℕ → ℕ → ℕ → A) {o o′ : List ℕ} {p p′ q q′ k k′ : ℕ} → o ≡ o′ → p ≡ p′ → q ≡ q′ → k ≡ k′ → f o p q k ≡ f o′ p′ q′ k′
 four f a b c d = λ i. f (a i) (b i) (c i) (d i)
@@ -131,7 +131,7 @@ module _ (t : List ℕ) (z : Sizes) (e : readAt t ≡ Reads z) where
       let q : z .functions - 1 + 1 ≡ z .functions = subst (λ (y : Sizes). y .functions - 1 + 1 ≡ y .functions) (sym own-sizes) (omega (arith, l .1 .some-function)) in
       rw (borrow.Author.Tests.eq-eqb (z .functions - 1 + 1) (z .functions) q)
 
-  pub ready : (s : State) (mem : List ℕ) → StandsAt (ctlOf s) → length mem ≡ total (wordsFrom z t (z .arrays) 0) → Ready z t s mem
+  pub ready : (s : State) (mem : List ℕ) → StandsAt (ctlOf s) → length mem ≡ total (wordsFrom z t (z .arrays) 0) → Runnable z t s mem
   ready s mem h l = record {
     short = read-limits t z e .2;
     room = λ f m r. room-at s h f m (subst (λ (y : Sizes). recordOf y t (s .place) ≡ Call f m) own-sizes r);

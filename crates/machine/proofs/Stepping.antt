@@ -26,7 +26,7 @@ use Rattle.machine.specs.declared.Told.the-variants.{Got, Bad}
 use Rattle.machine.specs.Directives.{directiveAt, directivesFrom, bytesOf}
 use Rattle.machine.specs.States.{words, length-stack, ctlOf, ctlNext, arrayNext, arrayed, RoomFor, dataOf, applied, viewPlan, stacked, below}
 use Rattle.machine.specs.Runs.{total}
-use Rattle.machine.specs.Turns.{Lent, lent, actedOf, Ready, Acts, Turns}
+use Rattle.machine.specs.Turns.{Lent, lent, actedOf, Runnable, Acts, Turns}
 use Rattle.machine.proofs.Moving.{Moved, Grows, only-calls}
 use Rattle.machine.proofs.Going.{directives-end, directives-bad, directives-on, run-ended, run-used, run-step, Going, StandsAt, own-sizes}
 use Rattle.machine.specs.Everywhere.{start-stands}
@@ -53,7 +53,7 @@ module _ (z : Sizes) (t : List ℕ) (s : State) where
     went e = sym planned ∙ rw (eq-eqb (p .stop) 0 e)
 
     -- a place is pushed by a CALL alone, where there is room for it
-    pub room-for : Ready z t s (a .mem) → p .stop ≡ 0 → RoomFor s (p .next .stacking)
+    pub room-for : Runnable z t s (a .mem) → p .stop ≡ 0 → RoomFor s (p .next .stacking)
     room-for ready e q k =
         let (f, m, r) = subst (Grows (T .rec (s .place)) (ctlOf s)) (went e) (only-calls T (ctlOf s) dir (here a)) q (ap (λ (j : Stacking). stacked j (ctlOf s .stack)) k) in
         ready .room f m r
@@ -99,7 +99,7 @@ module _ (z : Sizes) (t : List ℕ) (s : State) where
       λ n. absurd (n k),
     )
 
-  module _ (dirs : List ℕ) (at seen : ℕ) (a : Lent) (ready : Ready z t s (a .mem)) where
+  module _ (dirs : List ℕ) (at seen : ℕ) (a : Lent) (ready : Runnable z t s (a .mem)) where
     over : s .place ≡ length t - 1 → ended T (ctlOf s) ≡ true
     over e = eq-eqb (s .place) (T .ret (entry T)) (e ∙ sym (ready .last))
 

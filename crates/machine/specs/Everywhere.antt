@@ -14,7 +14,7 @@ use Rattle.model.specs.Records.{length-pos}
 use Rattle.model.specs.InOrder.{Chain, chain-le}
 use Rattle.model.specs.Functions.{ret-alone}
 use Rattle.model.specs.Places.{spans, look, between, no-return}
-use Rattle.model.specs.Code.{Reads as Known, At, enters-at, depth}
+use Rattle.model.specs.Code.{Known, At, enters-at, depth}
 use Rattle.model.specs.Stands.{Stands, EndStands, stack-bound, run-stands}
 use Rattle.model.specs.Machine.{Ctl, Data, Final, final, run, startCtl}
 use Rattle.model.specs.declared.Sizes.{Sizes}

@@ -27,7 +27,7 @@ ghost use Rattle.format.specs.Format.{wordsFrom};
 ghost use Rattle.format.specs.Layout.{tableWith};
 ghost use Rattle.machine.specs.States.{words, applied, Lands};
 ghost use Rattle.machine.specs.Runs.{ran, total, started};
-ghost use Rattle.machine.specs.Turns.{lent, actedWith, Acts, Turns, Ready};
+ghost use Rattle.machine.specs.Turns.{lent, actedWith, Acts, Turns, Runnable};
 
 fn halted(stop: u8, state: State, seen: usize) -> Acted
     ensures { λ r. ⌜ (r .stop ≡ stop) × (r .state ≡ state) × (r .seen ≡ seen) ⌝ }
@@ -66,7 +66,7 @@ fn act(
     mem: &mut [u32],
     obs: &mut [u8],
 ) -> Acted
-    requires { ⌜ Ready z (now t) s (now mem) × (seen ≤ length (now obs)) ⌝ }
+    requires { ⌜ Runnable z (now t) s (now mem) × (seen ≤ length (now obs)) ⌝ }
     ensures { λ r. ⌜ Acts z (now (t .entry)) s dir seen (lent (now (regs .entry)) (now (mem .entry)) (now (obs .entry))) r (lent (now (regs .exit)) (now (mem .exit)) (now (obs .exit))) ⌝ }
 {
     let p = plan(t, z, s, dir, regs, mem);
@@ -130,7 +130,7 @@ fn step(
     mem: &mut [u32],
     obs: &mut [u8],
 ) -> Took
-    requires { ⌜ Ready z (now t) (now s) (now mem) × (seen ≤ length (now obs)) ⌝ }
+    requires { ⌜ Runnable z (now t) (now s) (now mem) × (seen ≤ length (now obs)) ⌝ }
     ensures { λ r. ⌜ Acts z (now (t .entry)) (now (s .entry)) dir seen (lent (now (regs .entry)) (now (mem .entry)) (now (obs .entry))) (actedWith r (now (s .exit))) (lent (now (regs .exit)) (now (mem .exit)) (now (obs .exit))) ⌝ }
 {
     let old = *s;
@@ -151,7 +151,7 @@ fn lent_step(
     mem: &mut [u32],
     obs: &mut [u8],
 ) -> Acted
-    requires { ⌜ Ready z (now t) s (now mem) × (seen ≤ length (now obs)) ⌝ }
+    requires { ⌜ Runnable z (now t) s (now mem) × (seen ≤ length (now obs)) ⌝ }
     ensures { λ r. ⌜ Acts z (now (t .entry)) s dir seen (lent (now (regs .entry)) (now (mem .entry)) (now (obs .entry))) r (lent (now (regs .exit)) (now (mem .exit)) (now (obs .exit))) ⌝ }
 {
     let mut state = s;
@@ -181,7 +181,7 @@ fn one_turn(
     mem: &mut [u32],
     obs: &mut [u8],
 ) -> Turn
-    requires { ⌜ Ready z (now t) s (now mem) × (seen ≤ length (now obs)) ⌝ }
+    requires { ⌜ Runnable z (now t) s (now mem) × (seen ≤ length (now obs)) ⌝ }
     ensures { λ r. ⌜ Turns z (now (t .entry)) s (now (dirs .entry)) at seen (lent (now (regs .entry)) (now (mem .entry)) (now (obs .entry))) r (lent (now (regs .exit)) (now (mem .exit)) (now (obs .exit))) ⌝ }
 {
     let place = s.place;

@@ -19,7 +19,7 @@ use Rattle.model.specs.Functions.{Called, edge, site-called, ret-alone}
 use Rattle.model.specs.Places.{Log, All, Here, here, covers, needs, no-return, between, look, each, first, flows, Enters, FlowsAt}
 
 -- what reading found out
-pub record Reads (t : Table) : Type 0 where
+pub record Known (t : Table) : Type 0 where
   pub some-function : (entry t) < t .functions
   pub fresh : t .enter ((entry t)) .status ≡ Unknown  -- fault 8
   pub blocks : Every t reading  -- faults 2 to 7
@@ -29,14 +29,14 @@ no-call : (i : Record) (f : ℕ) (m : Bool) → i ≡ Return → i ≡ Call f m 
 no-call i f m p q = true≢false (cc)
 
 -- a CALL that is met in g is of a lower function
-lower : (t : Table) → Reads t → (g c f : ℕ) (m : Bool) → g < t .functions → Chain t (t .start g) c → c < t .ret g → t .rec c ≡ Call f m → f < g
+lower : (t : Table) → Known t → (g c f : ℕ) (m : Bool) → g < t .functions → Chain t (t .start g) c → c < t .ret g → t .rec c ≡ Call f m → f < g
 lower t reads g c f m l h k e = go (covers t reading (reads .blocks g l .body) c h)
   where
     go : ((G : Unit {0}) × Log t reading (reads .blocks g l .body) c G) ⊎ Chain t (t .ret g) c → f < g
     go (inl w) = subst (Lower g) e (look t reading _ (reads .blocks g l .body) (needs t reading (reads .blocks g l .body)) c (w .0) (w .1) (rw e tt))
     go (inr w) = absurd (omega (arith, chain-le t w))
 
-module _ (t : Table) (reads : Reads t) (R : Rules) (typed : Every t R) where
+module _ (t : Table) (reads : Known t) (R : Rules) (typed : Every t R) where
   -- p, in f, is typed from E
   abbrev pub At : ℕ → ℕ → R .Env → Type 0
   At f p E = (l : f < t .functions) × (Log t R (typed f l .body) p E ⊎ Here (t .ret f) (typed f l .last) p E)

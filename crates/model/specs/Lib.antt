@@ -28,4 +28,4 @@ pub mod Code
 pub mod Stands
 pub mod Alike
 pub mod Secure
-pub mod Demand3
+pub mod TwoRuns

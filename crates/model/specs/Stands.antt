@@ -19,9 +19,9 @@ use Rattle.model.specs.declared.Observation.the-variants.{Nothing}
 use Rattle.model.specs.Rules.{reading}
 use Rattle.model.specs.Machine.{Ctl, Data, Work, halt, did, Stepped, Stop, Went, reg, onward, to, pop, work, plain, fork, wrong, right, back, stepOf, step, size, Final, final, observed, afterStep, ended, run}
 use Rattle.model.specs.Flow.{To, Site, Flow, Frames}
-use Rattle.model.specs.Code.{Reads, At, flows-at, depth}
+use Rattle.model.specs.Code.{Known, At, flows-at, depth}
 
-module _ (t : Table) (reads : Reads t) where
+module _ (t : Table) (reads : Known t) where
   abbrev Place : ℕ → ℕ → Unit {0} → Type 0
   Place = At t reads reading (reads .blocks)
 

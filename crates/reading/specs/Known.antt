@@ -12,7 +12,7 @@ use Rattle.model.specs.Packing.{packedIn}
 use Rattle.model.specs.Table.{entry}
 use Rattle.model.specs.Blocks.{Every}
 use Rattle.model.specs.Rules.{reading}
-use Rattle.model.specs.Code.{Reads as Known}
+use Rattle.model.specs.Code.{Known}
 use Rattle.model.specs.declared.Sizes.{Sizes}
 use Rattle.format.specs.Format.{byte, word16, packedAt}
 use Rattle.format.specs.Head.{then, sizesAt, arrayAt, signatureAt, arraysAt, signaturesAt}

@@ -14,7 +14,7 @@ use borrow.Author.Tests.{eq-eqb}
 use Rattle.model.specs.Table.{entry}
 use Rattle.model.specs.Rules.{Typed}
 use Rattle.model.specs.Machine.{Ctl, wordsOf, address, Final, final, run, startCtl}
-use Rattle.model.specs.Demand3.{Agree, SameShown, secure}
+use Rattle.model.specs.TwoRuns.{Agree, SameShown, secure}
 use Rattle.model.specs.declared.Observation.{Observation}
 use Rattle.format.specs.Format.{wordsFrom}
 use Rattle.format.specs.Layout.{sizesOf, tableOf}

@@ -63,16 +63,4 @@ returns-6 c =
 
 pub array-spec : {M : Type 1} → statement M
 array-spec =
-    tie.close
-    (tie.spec
-    returns
-    (λ c. search needs)
-    returns-2
-    (λ c. search needs)
-    returns-3
-    (λ c. search needs)
-    (λ c κs. search needs)
-    returns-4
-    returns-5
-    (λ c. search needs)
-    returns-6)
+    tie.close (tie.spec returns (λ c. search needs) returns-2 (λ c. search needs) returns-3 (λ c. search needs) (λ c κs. search needs) returns-4 returns-5 (λ c. search needs) returns-6)

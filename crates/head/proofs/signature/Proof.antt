@@ -1,3 +1,4 @@
+-- The tests of a signature in their order, 3, 2, 4, 8: each answer is the definition's, by the tests that led to it.
 use mathlib.Core.Path.{sym, _∙_}
 use borrow.Author.Tests.{lt-ltb, le-ltb, le-leb, lt-leb, eq-eqb, ne-eqb, not-true, not-false}
 use Rattle.format.specs.Head.{signatureAt}

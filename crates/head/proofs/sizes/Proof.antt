@@ -1,3 +1,5 @@
+-- The tests of the sizes record in their order. A refusal asks for its own test alone: whatever the others say, the
+-- answer is 4 (`pick-same`).
 use Rattle.model.specs.Tests.{pick-same}
 use Prim.Native.Nat.{_+_, _<_}
 use native.Mathlib.Omega.{arith}

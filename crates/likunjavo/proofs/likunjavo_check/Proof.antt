@@ -16,14 +16,4 @@ returns-2 c = c .put-three2 .ensures ∙ sym (ap verdictNumbers (sym (c .before 
 
 pub likunjavo-check-spec : {M : Type 1} → statement M
 likunjavo-check-spec =
-    tie.close
-    (tie.spec
-    (λ c κs. search needs)
-    (λ c. search needs)
-    (λ c. search needs)
-    (λ c κs. search needs)
-    (λ c. search needs)
-    (λ c. search needs)
-    (λ c κs. search needs)
-    returns
-    returns-2)
+    tie.close (tie.spec (λ c κs. search needs) (λ c. search needs) (λ c. search needs) (λ c κs. search needs) (λ c. search needs) (λ c. search needs) (λ c κs. search needs) returns returns-2)

@@ -16,12 +16,4 @@ returns-2 c = c .put-three2 .ensures ∙ sym (ap partNumbers (sym (c .before .be
 
 pub likunjavo-shown-spec : {M : Type 1} → statement M
 likunjavo-shown-spec =
-    tie.close
-    (tie.spec
-    (λ c κs. search needs)
-    (λ c. search needs)
-    (λ c κs. search needs)
-    (λ c. search needs)
-    (λ c κs. search needs)
-    returns
-    returns-2)
+    tie.close (tie.spec (λ c κs. search needs) (λ c. search needs) (λ c κs. search needs) (λ c. search needs) (λ c κs. search needs) returns returns-2)

@@ -31,12 +31,4 @@ returns-2 c =
 
 pub shown-spec : {M : Type 1} → statement M
 shown-spec =
-    tie.close
-    (tie.spec
-    (λ c κs. search needs)
-    (λ c. search needs)
-    slice-of-requires
-    (λ c. search needs)
-    slice-of-requires-2
-    returns
-    returns-2)
+    tie.close (tie.spec (λ c κs. search needs) (λ c. search needs) slice-of-requires (λ c. search needs) slice-of-requires-2 returns returns-2)

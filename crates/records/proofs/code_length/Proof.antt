@@ -1,3 +1,4 @@
+-- A table of numbers beside the rows of the kinds: one case for each kind, and one for all others.
 use borrow.Author.Tests.{ne-eqb}
 use native.Mathlib.Omega.{arith}
 use Rattle.format.specs.Format.{codeLength}
@@ -77,44 +78,9 @@ returns-17 c = (simp (c .match .keys17), omega arith)
 returns-18 : tie.Need-returns-18
 unfolding codeLength
 returns-18 c =
-    let r0 = c .match .rest .1 in
-    let r1 = c .match .rest .0 .1 in
-    let r2 = c .match .rest .0 .0 .1 in
-    let r3 = c .match .rest .0 .0 .0 .1 in
-    let r4 = c .match .rest .0 .0 .0 .0 .1 in
-    let r5 = c .match .rest .0 .0 .0 .0 .0 .1 in
-    let r6 = c .match .rest .0 .0 .0 .0 .0 .0 .1 in
-    let r7 = c .match .rest .0 .0 .0 .0 .0 .0 .0 .1 in
-    let r8 = c .match .rest .0 .0 .0 .0 .0 .0 .0 .0 .1 in
-    let r9 = c .match .rest .0 .0 .0 .0 .0 .0 .0 .0 .0 .1 in
-    let r10 = c .match .rest .0 .0 .0 .0 .0 .0 .0 .0 .0 .0 .1 in
-    let r11 = c .match .rest .0 .0 .0 .0 .0 .0 .0 .0 .0 .0 .0 .1 in
-    let r12 = c .match .rest .0 .0 .0 .0 .0 .0 .0 .0 .0 .0 .0 .0 .1 in
-    let r13 = c .match .rest .0 .0 .0 .0 .0 .0 .0 .0 .0 .0 .0 .0 .0 .1 in
-    let r14 = c .match .rest .0 .0 .0 .0 .0 .0 .0 .0 .0 .0 .0 .0 .0 .0 .1 in
-    let r15 = c .match .rest .0 .0 .0 .0 .0 .0 .0 .0 .0 .0 .0 .0 .0 .0 .0 .1 in
-    let r16 = c .match .rest .0 .0 .0 .0 .0 .0 .0 .0 .0 .0 .0 .0 .0 .0 .0 .0 .1 in
+    let (((((((((((((((((_, r16), r15), r14), r13), r12), r11), r10), r9), r8), r7), r6), r5), r4), r3), r2), r1), r0) = c .match .rest in
     (simp ne-eqb, omega arith)
 
 pub code-length-spec : {M : Type 1} → statement M
 code-length-spec =
-    tie.close
-    (tie.spec
-    returns
-    returns-2
-    returns-3
-    returns-4
-    returns-5
-    returns-6
-    returns-7
-    returns-8
-    returns-9
-    returns-10
-    returns-11
-    returns-12
-    returns-13
-    returns-14
-    returns-15
-    returns-16
-    returns-17
-    returns-18)
+    tie.close (tie.spec returns returns-2 returns-3 returns-4 returns-5 returns-6 returns-7 returns-8 returns-9 returns-10 returns-11 returns-12 returns-13 returns-14 returns-15 returns-16 returns-17 returns-18)

@@ -1,3 +1,5 @@
+-- A dispatcher: each kind goes to its reader, and the row of that kind is what the reader's contract says. Where no
+-- kind fits, no row does.
 use Prim.Native.Nat.{ℕ, _+_, _≤_}
 use lib.ListN.{length}
 use mathlib.Core.Path.{sym, subst}
@@ -148,23 +150,7 @@ returns-17 c = rw (c .match .keys17) (sym (row-return (c .before .before .args .
 returns-18 : tie.Need-returns-18
 unfolding rowAt
 returns-18 c =
-    let r0 = c .match .rest .1 in
-    let r1 = c .match .rest .0 .1 in
-    let r2 = c .match .rest .0 .0 .1 in
-    let r3 = c .match .rest .0 .0 .0 .1 in
-    let r4 = c .match .rest .0 .0 .0 .0 .1 in
-    let r5 = c .match .rest .0 .0 .0 .0 .0 .1 in
-    let r6 = c .match .rest .0 .0 .0 .0 .0 .0 .1 in
-    let r7 = c .match .rest .0 .0 .0 .0 .0 .0 .0 .1 in
-    let r8 = c .match .rest .0 .0 .0 .0 .0 .0 .0 .0 .1 in
-    let r9 = c .match .rest .0 .0 .0 .0 .0 .0 .0 .0 .0 .1 in
-    let r10 = c .match .rest .0 .0 .0 .0 .0 .0 .0 .0 .0 .0 .1 in
-    let r11 = c .match .rest .0 .0 .0 .0 .0 .0 .0 .0 .0 .0 .0 .1 in
-    let r12 = c .match .rest .0 .0 .0 .0 .0 .0 .0 .0 .0 .0 .0 .0 .1 in
-    let r13 = c .match .rest .0 .0 .0 .0 .0 .0 .0 .0 .0 .0 .0 .0 .0 .1 in
-    let r14 = c .match .rest .0 .0 .0 .0 .0 .0 .0 .0 .0 .0 .0 .0 .0 .0 .1 in
-    let r15 = c .match .rest .0 .0 .0 .0 .0 .0 .0 .0 .0 .0 .0 .0 .0 .0 .0 .1 in
-    let r16 = c .match .rest .0 .0 .0 .0 .0 .0 .0 .0 .0 .0 .0 .0 .0 .0 .0 .0 .1 in
+    let (((((((((((((((((_, r16), r15), r14), r13), r12), r11), r10), r9), r8), r7), r6), r5), r4), r3), r2), r1), r0) = c .match .rest in
     simp ne-eqb
 
 pub fields-spec : {M : Type 1} → statement M

@@ -41,18 +41,4 @@ returns-4 c =
 
 pub read-load-fixed-spec : {M : Type 1} → statement M
 read-load-fixed-spec =
-    tie.close
-    (tie.spec
-    (λ c. search needs)
-    (λ c. search needs)
-    (λ c. search needs)
-    (λ c. search needs)
-    (λ c. search needs)
-    (λ c κs. search needs)
-    returns
-    returns-2
-    (λ c κs. search needs)
-    returns-3
-    (λ c. search needs)
-    (λ c. search needs)
-    returns-4)
+    tie.close (tie.spec (λ c. search needs) (λ c. search needs) (λ c. search needs) (λ c. search needs) (λ c. search needs) (λ c κs. search needs) returns returns-2 (λ c κs. search needs) returns-3 (λ c. search needs) (λ c. search needs) returns-4)

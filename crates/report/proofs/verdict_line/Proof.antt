@@ -14,13 +14,4 @@ returns-2 c = rw (c .before .before .before .before .before .v2 .given .1) (c .b
 
 pub verdict-line-spec : {M : Type 1} → statement M
 verdict-line-spec =
-    tie.close
-    (tie.spec
-    (λ c. search needs)
-    (λ c κs. search needs)
-    (λ c. search needs)
-    (λ c κs. search needs)
-    (λ c. search needs)
-    returns
-    (λ c. search needs)
-    returns-2)
+    tie.close (tie.spec (λ c. search needs) (λ c κs. search needs) (λ c. search needs) (λ c κs. search needs) (λ c. search needs) returns (λ c. search needs) returns-2)

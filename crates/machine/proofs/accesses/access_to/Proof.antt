@@ -34,12 +34,4 @@ returns-4 c =
 
 pub access-to-spec : {M : Type 1} → statement M
 access-to-spec =
-    tie.close
-    (tie.spec
-    (λ c κs. search needs)
-    (λ c κs. search needs)
-    returns
-    returns-2
-    returns-3
-    (λ c κs. search needs)
-    returns-4)
+    tie.close (tie.spec (λ c κs. search needs) (λ c κs. search needs) returns returns-2 returns-3 (λ c κs. search needs) returns-4)

@@ -63,16 +63,4 @@ returns-3 c =
 
 pub list-fault-spec : {M : Type 1} → statement M
 list-fault-spec =
-    tie.close
-    (tie.spec
-    Inv-loop
-    μ-loop
-    returns
-    loop-holds
-    (λ c κs. search needs)
-    (λ c. search needs)
-    returns-2
-    (λ c. search needs)
-    loop-less
-    loop-again
-    returns-3)
+    tie.close (tie.spec Inv-loop μ-loop returns loop-holds (λ c κs. search needs) (λ c. search needs) returns-2 (λ c. search needs) loop-less loop-again returns-3)

@@ -1,3 +1,5 @@
+-- The plan of one step: the record is decoded, and each kind's plan is the model's step for that record (`step-got`).
+-- Where nothing decodes RETURN stands for it, as in the model.
 use Rattle.model.specs.Machine.{onward, work, to, pass, fork, reg}
 use Rattle.machine.specs.States.{ctlOf, dataOf, called}
 use Rattle.format.specs.Laws.{good}

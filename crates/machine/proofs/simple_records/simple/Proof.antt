@@ -1,3 +1,5 @@
+-- A dispatcher over the simple records: each arm's contract is the model's work for that record, and the plan goes on
+-- to the place after it.
 use Rattle.model.specs.declared.Observation.the-variants.{Nothing}
 use Rattle.model.specs.Records.{SimpleReaches}
 use Rattle.model.specs.Tests.{pick}

@@ -1,3 +1,5 @@
+-- The run's loop: what is left of the model's run from here on, with what was done so far, is the whole run
+-- (`Going`). Each turn takes one directive, so that the directives left fall.
 use Prim.Native.Nat.{_-_}
 use native.Mathlib.Omega.{arith}
 use mathlib.Core.Bool.{false}
@@ -88,17 +90,4 @@ loop-again c =
 
 pub all-steps-spec : {M : Type 1} → statement M
 all-steps-spec =
-    tie.close
-    (tie.spec
-    Inv-loop
-    μ-loop
-    (λ c κs. search needs)
-    loop-holds
-    one-turn-requires
-    same-length
-    same-length-2
-    same-length-3
-    returns
-    add-steps
-    loop-less
-    loop-again)
+    tie.close (tie.spec Inv-loop μ-loop (λ c κs. search needs) loop-holds one-turn-requires same-length same-length-2 same-length-3 returns add-steps loop-less loop-again)

@@ -50,7 +50,7 @@ use Rattle.model.specs.declared.Directive.{Directive}
 use Rattle.machine.specs.declared.State.{State}
 use Rattle.machine.specs.declared.Acted.{Acted}
 use Rattle.machine.specs.declared.Took.{Took}
-use Rattle.machine.specs.Turns.{lent, actedWith, Acts, Ready}
+use Rattle.machine.specs.Turns.{lent, actedWith, Acts, Runnable}
 use Rattle.model.proofs.Sizes as Z
 use Rattle.model.proofs.Sizes.Laws as Z′
 use Rattle.model.proofs.Directive as D
@@ -187,7 +187,7 @@ module _ {M : Type 1} (𝓤 : URA M) (H : Heap 𝓤) (A : Atoms 𝓤) (W : Given
       ∷ MutSlice (named 3) κ₂ u32 ∷ MutSlice (named 4) κ₃ u8 ∷ [])
       (step-args l δ) (vptr l 0 ∷ [], (slice-vals t, (z-vals z, (d-vals dir, (vint w64 n ∷ [], (slice-vals g, (slice-vals m, (slice-vals v, tt))))))))
 
-  goes-step : (l α : ℕ) (δ : GName) → Ready z (t .now) h (m .now) × (n ≤ length (v .now))
+  goes-step : (l α : ℕ) (δ : GName) → Runnable z (t .now) h (m .now) × (n ≤ length (v .now))
       → ent 𝓤 (⋆ 𝓤 H A ((‵ (flft (α ∷ []) fullShare) ⊛ tokens) ∷ ‵ (step-owns l α δ) ∷ [])) (Step 𝓤 H A at-mem run .pre (to-step l α δ))
   goes-step l α δ ready = qed W ((‵ (flft (α ∷ []) fullShare) ⊛ tokens) ∷ ‵ (step-owns l α δ) ∷ []) ∵ says ! ready $ frame ! $ done !
 
@@ -212,7 +212,7 @@ module _ {M : Type 1} (𝓤 : URA M) (H : Heap 𝓤) (A : Atoms 𝓤) (W : Given
       (known-acted : Triple 𝓤 (C #acted) (ActedOf 𝓤 H A at-mem run))
       (z-is : Is Z.the-row z (z-vals z)) (h-is : Is T.the-row h (vals h)) (d-is : Is D.the-row dir (d-vals dir)) (fits : n < 2 ^ 64)
       (t-room : Room u8 (length (t .now))) (g-room : Room u32 (length (g .now))) (m-room : Room u32 (length (m .now))) (v-room : Room u8 (length (v .now))) where
-    walk : Ready z (t .now) h (m .now) × (n ≤ length (v .now))
+    walk : Runnable z (t .now) h (m .now) × (n ≤ length (v .now))
         → ent 𝓤 (onEntry 𝓤 H A lent-step.signature (κ₀, (κ₁, (κ₂, (κ₃, tt)))) (q₀, (q₁, (q₂, (q₃, tt)))) x at)
         (WpFn 𝓤 H C Λ code.function (sliceVal (t .ptr) (length (t .now)) ∷ LL.val Z.the-type Z′.the-laws z ∷ LL.val T.the-type T′.the-laws h ∷ EL.val D.the-type D′.the-laws dir ∷ vint w64 n
         ∷ sliceVal (g .ptr) (length (g .now)) ∷ sliceVal (m .ptr) (length (m .now)) ∷ sliceVal (v .ptr) (length (v .now)) ∷ []) Post)
@@ -322,7 +322,7 @@ module _ {M : Type 1} (𝓤 : URA M) (H : Heap 𝓤) (A : Atoms 𝓤) (W : Given
           ),
         ),
       ))
-      (λ κs qs bounds a _ are. needs 𝓤 (Ready (a .1 .0) (a .0 .now) (a .1 .1 .0) (a .1 .1 .1 .1 .1 .1 .0 .now) × (a .1 .1 .1 .1 .0 ≤ length (a .1 .1 .1 .1 .1 .1 .1 .0 .now))) _ (λ ready.
+      (λ κs qs bounds a _ are. needs 𝓤 (Runnable (a .1 .0) (a .0 .now) (a .1 .1 .0) (a .1 .1 .1 .1 .1 .1 .0 .now) × (a .1 .1 .1 .1 .0 ≤ length (a .1 .1 .1 .1 .1 .1 .1 .0 .now))) _ (λ ready.
       walk 𝓤 H A W at-mem run (κs .0) (κs .1 .0) (κs .1 .1 .0) (κs .1 .1 .1 .0) (qs .0) (qs .1 .0) (qs .1 .1 .0) (qs .1 .1 .1 .0)
       (a .0) (a .1 .0) (a .1 .1 .0) (a .1 .1 .1 .0) (a .1 .1 .1 .1 .0) (a .1 .1 .1 .1 .1 .0) (a .1 .1 .1 .1 .1 .1 .0) (a .1 .1 .1 .1 .1 .1 .1 .0)
       C Λ fm known-step known-acted (are .1 .0) (are .1 .1 .0) (are .1 .1 .1 .0) (are .1 .1 .1 .1 .0 .1) (are .0 .0 .1)

@@ -49,7 +49,7 @@ use Rattle.model.specs.declared.Directive.{Directive}
 use Rattle.machine.specs.declared.State.{State}
 use Rattle.machine.specs.declared.Acted.{Acted}
 use Rattle.machine.specs.declared.Took.{Took}
-use Rattle.machine.specs.Turns.{lent, actedWith, Acts, Ready}
+use Rattle.machine.specs.Turns.{lent, actedWith, Acts, Runnable}
 use Rattle.model.proofs.Sizes as Z
 use Rattle.model.proofs.Sizes.Laws as Z′
 use Rattle.model.proofs.Directive as D
@@ -176,7 +176,7 @@ module _ {M : Type 1} (𝓤 : URA M) (H : Heap 𝓤) (A : Atoms 𝓤) (W : Given
       ∷ MutSlice (named 3) κ₄ u8 ∷ [])
       (t, (z, (h, (dir, (n, (g, (m, (v, tt)))))))) (slice-vals t, (z-vals z, (vals h, (d-vals dir, (vint w64 n ∷ [], (slice-vals g, (slice-vals m, (slice-vals v, tt))))))))
 
-  goes-act : Ready z (t .now) h (m .now) × (n ≤ length (v .now)) → ent 𝓤 (⋆ 𝓤 H A (tokens ∷ ‵ act-owns ∷ [])) (Act 𝓤 H A at-mem run .pre to-act)
+  goes-act : Runnable z (t .now) h (m .now) × (n ≤ length (v .now)) → ent 𝓤 (⋆ 𝓤 H A (tokens ∷ ‵ act-owns ∷ [])) (Act 𝓤 H A at-mem run .pre to-act)
   goes-act ready = qed W (tokens ∷ ‵ act-owns ∷ []) ∵ says ! ready $ frame ! $ done !
 
   abbrev to-state : Acted → Val → StateOf 𝓤 H A at-mem run .Ghost
@@ -208,7 +208,7 @@ module _ {M : Type 1} (𝓤 : URA M) (H : Heap 𝓤) (A : Atoms 𝓤) (W : Given
       (known-state : Triple 𝓤 (C #state-of) (StateOf 𝓤 H A at-mem run)) (known-took : Triple 𝓤 (C #took) (TookOf 𝓤 H A at-mem run))
       (z-is : Is Z.the-row z (z-vals z)) (d-is : Is D.the-row dir (d-vals dir)) (fits : n < 2 ^ 64)
       (t-room : Room u8 (length (t .now))) (g-room : Room u32 (length (g .now))) (m-room : Room u32 (length (m .now))) (v-room : Room u8 (length (v .now))) where
-    walk : Ready z (t .now) h (m .now) × (n ≤ length (v .now))
+    walk : Runnable z (t .now) h (m .now) × (n ≤ length (v .now))
         → ent 𝓤 (onEntry 𝓤 H A step.signature (κ₀, (κ₁, (κ₂, (κ₃, (κ₄, tt))))) (q₀, (q₁, (q₂, (q₃, (q₄, tt))))) x at)
         (WpFn 𝓤 H C Λ code.function (vptr b o ∷ sliceVal (t .ptr) (length (t .now)) ∷ LL.val Z.the-type Z′.the-laws z ∷ EL.val D.the-type D′.the-laws dir ∷ vint w64 n
         ∷ sliceVal (g .ptr) (length (g .now)) ∷ sliceVal (m .ptr) (length (m .now)) ∷ sliceVal (v .ptr) (length (v .now)) ∷ []) Post)
@@ -319,7 +319,7 @@ module _ {M : Type 1} (𝓤 : URA M) (H : Heap 𝓤) (A : Atoms 𝓤) (W : Given
           ),
         ),
       ))
-      (λ κs qs bounds a _ are. needs 𝓤 (Ready (a .1 .1 .0) (a .1 .0 .now) (a .0 .now) (a .1 .1 .1 .1 .1 .1 .0 .now) × (a .1 .1 .1 .1 .0 ≤ length (a .1 .1 .1 .1 .1 .1 .1 .0 .now))) _ (λ ready.
+      (λ κs qs bounds a _ are. needs 𝓤 (Runnable (a .1 .1 .0) (a .1 .0 .now) (a .0 .now) (a .1 .1 .1 .1 .1 .1 .0 .now) × (a .1 .1 .1 .1 .0 ≤ length (a .1 .1 .1 .1 .1 .1 .1 .0 .now))) _ (λ ready.
       walk 𝓤 H A W at-mem run (κs .0) (κs .1 .0) (κs .1 .1 .0) (κs .1 .1 .1 .0) (κs .1 .1 .1 .1 .0) (qs .0) (qs .1 .0) (qs .1 .1 .0) (qs .1 .1 .1 .0) (qs .1 .1 .1 .1 .0)
       (a .0 .ptr .0) (a .0 .ptr .1) (a .0 .name) (a .0 .now) (a .1 .0) (a .1 .1 .0) (a .1 .1 .1 .0) (a .1 .1 .1 .1 .0)
       (a .1 .1 .1 .1 .1 .0) (a .1 .1 .1 .1 .1 .1 .0) (a .1 .1 .1 .1 .1 .1 .1 .0)

@@ -1,3 +1,7 @@
+-- The readers' cycle meets its contracts: a block reads instructions, and an instruction may hold blocks. What falls
+-- at each call is the nesting that is left, counted in steps of three; in the block's loop it is the bytes left. The
+-- loop's invariant says that the definition's block from the start is its block from here on, with enough of its
+-- bound left; every answer is then one turn of that definition.
 use Prim.Native.Nat.{ℕ, _<_, _≤_, _+_, _*_, _-_}
 use native.Mathlib.Omega.{arith}
 use borrow.Author.Needs.{needs}

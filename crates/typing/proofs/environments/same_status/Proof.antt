@@ -1,3 +1,4 @@
+-- Two statuses are the same: a match in a match, one case for each pair.
 use Rattle.model.specs.Levels.{sameStatus}
 use borrow.Author.Needs.{needs}
 use Rattle.typing.proofs.environments.same_status.Statement.{statement}

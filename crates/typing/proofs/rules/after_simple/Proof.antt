@@ -1,3 +1,4 @@
+-- A dispatcher over the simple records: each arm's contract is the rule of that record.
 use Rattle.model.specs.Records.{SimpleFits}
 use native.Mathlib.Omega.{arith}
 use mathlib.Core.Path.{subst}

@@ -1,3 +1,5 @@
+-- One match over the simple records: the number that each arm answers is 01's, or 0 where the record has what it
+-- asks.
 use borrow.Author.Needs.{needs}
 use Rattle.typing.proofs.rules.fault_of.Statement.{statement}
 use Rattle.typing.proofs.rules.fault_of.Tie as tie

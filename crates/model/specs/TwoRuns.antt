@@ -13,7 +13,7 @@ use Rattle.model.specs.Rules.{typing, Typed}
 use Rattle.model.specs.Machine.{Data, reg, wordsOf, wordAt, Final, final, run, startCtl}
 use Rattle.model.specs.Alike.{top, Alike, weaken}
 use Rattle.model.specs.Secure.{Related, SameEnd, arrive, run-same}
-use Rattle.model.specs.Code.{Reads, At, enters-at, flows-at, ends-within}
+use Rattle.model.specs.Code.{Known, At, enters-at, flows-at, ends-within}
 use Rattle.model.specs.declared.Directive.{Directive}
 
 -- both of the table's sizes, equal in every register and array whose level on the way in is at most the highest that counts:
@@ -33,7 +33,7 @@ SameShown (final j n c x os) (final k m d y ps) = (j ≡ k) × (n ≡ m) × (c �
 abbrev pub SameOut : Table → Final → Final → Type 0
 SameOut t (final j n c x os) (final k m d y ps) = c .place ≡ t .ret (entry t) → Alike t (t .leave (entry t)) (c .mis) x y
 
-module _ (t : Table) (reads : Reads t) (typed : Typed t) where
+module _ (t : Table) (reads : Known t) (typed : Typed t) where
   abbrev at : ℕ → ℕ → typing t .Env → Type 0
   at = At t reads (typing t) typed
 
