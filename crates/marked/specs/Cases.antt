@@ -9,7 +9,7 @@ use Rattle.model.specs.Levels.{Env, joinStatus, sameStatus, within}
 use Rattle.model.specs.Packing.{slot, levelsIn, packedIn}
 use Rattle.model.specs.Rules.{kill, guardStatus, callStatus, settle, beside, after, returned}
 use Rattle.model.specs.Decide.{meets, simpleNumber}
-use Rattle.model.specs.Walk.{blockWith as typeBlock, instrAt as typeInstr, functionAt as typeFunction}
+use Rattle.model.specs.Walk.{typeBlock, typeInstr, typeFunction}
 use Rattle.model.specs.Typing.{typeFrom}
 use Rattle.model.specs.declared.Status.{Status}
 use Rattle.model.specs.declared.Status.the-variants.{Unknown, Updated, Outdated}

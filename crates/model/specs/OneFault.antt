@@ -14,7 +14,7 @@ use Rattle.model.specs.Rules.{reading, typing}
 use Rattle.model.specs.Faults.{Faults, fails, past, if-guard, if-first, if-second, if-past, while-arriving, while-guard, while-body, while-end, while-past, FaultsFunction, inside as on-the-way, at-return, FirstFault}
 use Rattle.model.specs.InOrder.{chain-le}
 use Rattle.model.specs.Places.{nesting, spans}
-use Rattle.model.specs.Walk.{Walked, Next, Shut, Fault, onNext, Tests, Right, ifWith, whileWith, single, instrWith, blockWith, inside, functionAt, single-at, instr-at}
+use Rattle.model.specs.Walk.{Ending, Failed, onNext, Tests, Right, ifWith, whileWith, single, instrWith, typeBlock, inside, typeFunction, single-at, instr-at}
 use Rattle.model.specs.Passes.{else-same, walk, blocks, Faulty, below, below₁, Complete, blocks-complete, walk-complete, Passes, passes-types}
 use Rattle.model.specs.Typing.{Read}
 use Rattle.model.specs.Decide.{numberOf, typingTests, typing-right}
@@ -75,10 +75,10 @@ module _ (t : Table) (R : Rules) (number : Record → ℕ) (g : ℕ) where
   meets (while-past {E₁ = E₁} i a o b j u f) = rw i (inr (a, inr (o, inr (E₁, b, inr (u, f)))))
 
 module _ (t : Table) (R : Rules) (D : Tests R) (g size : ℕ) (ok : Right R D g) where
-  abbrev step : ℕ → ℕ → ℕ → R .Env → Walked (R .Env)
+  abbrev step : ℕ → ℕ → ℕ → R .Env → Ending (R .Env)
   step d k p E = walk t R D g size ok d k p E
 
-  abbrev into : ℕ → ℕ → ℕ → R .Env → Walked (R .Env)
+  abbrev into : ℕ → ℕ → ℕ → R .Env → Ending (R .Env)
   into d x = blocks t R D g size ok d x
 
   abbrev Flawed : ℕ → R .Env → ℕ → ℕ → Type 0
@@ -86,16 +86,16 @@ module _ (t : Table) (R : Rules) (D : Tests R) (g size : ℕ) (ok : Right R D g)
 
   -- whatever first fault there is from p on, the walk names it; m: how deep the block is nested
   abbrev Named : ℕ → ℕ → ℕ → Type 0
-  Named p q m = (d k : ℕ) (E : R .Env) (n c : ℕ) → m ≤ d → q < k + p → Flawed p E n c → step d k p E ≡ Fault n c
+  Named p q m = (d k : ℕ) (E : R .Env) (n c : ℕ) → m ≤ d → q < k + p → Flawed p E n c → step d k p E ≡ Failed n c
 
   named-count : (p q m : ℕ) → p ≤ q
-      → ((d k : ℕ) (E : R .Env) (n c : ℕ) → m ≤ d → q < suc k + p → Flawed p E n c → onNext (instrWith t R D (into d p) (t .rec p) p E) (step d k) ≡ Fault n c)
+      → ((d k : ℕ) (E : R .Env) (n c : ℕ) → m ≤ d → q < suc k + p → Flawed p E n c → onNext (instrWith t R D (into d p) (t .rec p) p E) (step d k) ≡ Failed n c)
       → Named p q m
-  unfolding blockWith
+  unfolding typeBlock
   named-count p q m l h d zero E n c u v w = absurd (omega arith)
   named-count p q m l h d (suc k) E n c u v w = rw (instr-at t R D size d p E) (h d k E n c u v w)
 
-  into-named : (x p q m : ℕ) → Named p q m → q < size → (d : ℕ) (E : R .Env) (n c : ℕ) → suc m ≤ d → Flawed p E n c → into d x p E ≡ Fault n c
+  into-named : (x p q m : ℕ) → Named p q m → q < size → (d : ℕ) (E : R .Env) (n c : ℕ) → suc m ≤ d → Flawed p E n c → into d x p E ≡ Failed n c
   into-named x p q m h l zero E n c u w = absurd (omega arith)
   into-named x p q m h l (suc d) E n c u w = h d size E n c (omega arith) (omega arith) w
 
@@ -106,7 +106,7 @@ module _ (t : Table) (R : Rules) (D : Tests R) (g size : ℕ) (ok : Right R D g)
   named-one p q m i l h = named-count p q m (omega arith) (λ d k E n c u v w. rw (single-at t R D (t .rec p) (into d p) p E i)
       (go d k E n c u v (single-meets t R (D .number) g p n c E (t .rec p) i .1 (meets t R (D .number) g w))))
     where
-      go : (d k : ℕ) (E : R .Env) (n c : ℕ) → m ≤ d → q < suc k + p → OfSingle t R (D .number) g p E n c (t .rec p) → onNext (single t R D (t .rec p) p E) (step d k) ≡ Fault n c
+      go : (d k : ℕ) (E : R .Env) (n c : ℕ) → m ≤ d → q < suc k + p → OfSingle t R (D .number) g p E n c (t .rec p) → onNext (single t R D (t .rec p) p E) (step d k) ≡ Failed n c
       go d k E n c u v (inl (f, (e₁, e₂))) = rw (refuses (D .meets (t .rec p) E) (ok .meets (t .rec p) E) f, e₁, e₂) refl
       go d k E n c u v (inr (b, f)) = rw (ok .meets (t .rec p) E .1 b) (h d k (R .after (t .rec p) E) n c u (omega (arith, length-pos (t .rec p))) f)
 
@@ -116,7 +116,7 @@ module _ (t : Table) (R : Rules) (D : Tests R) (g size : ℕ) (ok : Right R D g)
   named-if p e n q r x y z i j l₁ l₂ l₃ l A B A′ B′ Z = named-count p q (max (suc (max x y)) z) (omega arith)
       (λ d k E a c u v w. rw i (go d k E a c u v (subst (Meets t R (D .number) g p E a c) i (meets t R (D .number) g w))))
     where
-      go : (d k : ℕ) (E : R .Env) (a c : ℕ) → max (suc (max x y)) z ≤ d → q < suc k + p → OfIf t R (D .number) g p E a c r e → onNext (ifWith t R D (into d p) p r E) (step d k) ≡ Fault a c
+      go : (d k : ℕ) (E : R .Env) (a c : ℕ) → max (suc (max x y)) z ≤ d → q < suc k + p → OfIf t R (D .number) g p E a c r e → onNext (ifWith t R D (into d p) p r E) (step d k) ≡ Failed a c
       go d k E a c u v (inl (f, (e₁, e₂))) = rw (refuses (D .public E r) (ok .public E r) f, e₁, e₂) refl
       go d k E a c u v (inr (o, inl f)) = rw (ok .public E r .1 o, into-named p (p + 4) e x A′ (omega arith) d (R .guarded E r true) a c (omega arith) f) refl
       go d k E a c u v (inr (o, inr (E₁, m, b, j₂, inl f))) =
@@ -133,7 +133,7 @@ module _ (t : Table) (R : Rules) (D : Tests R) (g size : ℕ) (ok : Right R D g)
   named-while p e q r x z L₀ i l₁ l₂ l A A′ Z = named-count p q (max (suc x) z) (omega arith)
       (λ d k E a c u v w. rw i (go d k E a c u v (subst (Meets t R (D .number) g p E a c) i (meets t R (D .number) g w))))
     where
-      go : (d k : ℕ) (E : R .Env) (a c : ℕ) → max (suc x) z ≤ d → q < suc k + p → OfWhile t R (D .number) g p E a c r e (R .loop L₀) → onNext (whileWith t R D (into d p) p r (R .loop L₀) E) (step d k) ≡ Fault a c
+      go : (d k : ℕ) (E : R .Env) (a c : ℕ) → max (suc x) z ≤ d → q < suc k + p → OfWhile t R (D .number) g p E a c r e (R .loop L₀) → onNext (whileWith t R D (into d p) p r (R .loop L₀) E) (step d k) ≡ Failed a c
       go d k E a c u v (inl (f, (e₁, e₂))) = rw (refuses (D .within E (R .loop L₀)) (ok .within E (R .loop L₀)) f, e₁, e₂) refl
       go d k E a c u v (inr (w, inl (f, (e₁, e₂)))) = rw (ok .within E (R .loop L₀) .1 w, refuses (D .public (R .loop L₀) r) (ok .public (R .loop L₀) r) f, e₁, e₂) refl
       go d k E a c u v (inr (w, inr (o, inl f))) =
@@ -166,8 +166,8 @@ module _ (t : Table) (R : Rules) (D : Tests R) (g size : ℕ) (ok : Right R D g)
       (walk-complete t R D g size ok a (rw j tt) e-in) (named-right a (rw j tt) e-in) (named-right z c l)
 
   -- whatever first fault a function has that was read, the walk names it
-  pub function-named : (s : TypesFunction t reading g) → nesting t reading (s .body) ≤ 16 → t .ret g < size → (n k : ℕ) → FaultsFunction t R (D .number) g n k → functionAt t R D size g ≡ Fault n k
-  unfolding functionAt
+  pub function-named : (s : TypesFunction t reading g) → nesting t reading (s .body) ≤ 16 → t .ret g < size → (n k : ℕ) → FaultsFunction t R (D .number) g n k → typeFunction t R D size g ≡ Failed n k
+  unfolding typeFunction
   function-named s h l n k (on-the-way f) = rw (named-right (s .body) (rw (s .returns) tt) l 16 size (R .enter g) n k h (omega arith) f) refl
   function-named s h l n k (at-return F b j f e) =
       rw (walk-complete t R D g size ok (s .body) (rw (s .returns) tt) l 16 size (R .enter g) F h (omega arith) b, refuses (D .within F (R .leave g)) (ok .within F (R .leave g)) f, e) refl
@@ -176,7 +176,7 @@ module _ (t : Table) (size : ℕ) (read : (g : ℕ) → g < t .functions → Rea
   abbrev First : ℕ → ℕ → Type 0
   First n k = FirstFault t (typing t) numberOf n k
 
-  names : (g n k : ℕ) → g < t .functions → FaultsFunction t (typing t) numberOf g n k → functionAt t (typing t) (typingTests t) size g ≡ Fault n k
+  names : (g n k : ℕ) → g < t .functions → FaultsFunction t (typing t) numberOf g n k → typeFunction t (typing t) (typingTests t) size g ≡ Failed n k
   names g n k l f = function-named t (typing t) (typingTests t) g size (typing-right t g) (read g l .blocks) (read g l .nested) (read g l .inside) n k f
 
   -- a function that types has no first fault
@@ -192,7 +192,7 @@ module _ (t : Table) (size : ℕ) (read : (g : ℕ) → g < t .functions → Rea
   pub one-fault : (n k m l : ℕ) → First n k → First m l → (n ≡ m) × (k ≡ l)
   one-fault n k m l a b = go (native.Mathlib.Decide.ℕ-discrete (b .function) (a .function))
     where
-      same : functionAt t (typing t) (typingTests t) size (a .function) ≡ Fault m l → (n ≡ m) × (k ≡ l)
+      same : typeFunction t (typing t) (typingTests t) size (a .function) ≡ Failed m l → (n ≡ m) × (k ≡ l)
       same e = let h = sym (names (a .function) n k (a .lies) (a .meets)) ∙ e in (cc, cc)
 
       apart : (b .function ≡ a .function → ⊥) → ⊥
@@ -204,5 +204,5 @@ module _ (t : Table) (size : ℕ) (read : (g : ℕ) → g < t .functions → Rea
           over e h = subst T e (lt→ltb (a .function) (b .function) h)
 
       go : Dec (b .function ≡ a .function) → (n ≡ m) × (k ≡ l)
-      go (yes e) = same (subst (λ (g : ℕ). functionAt t (typing t) (typingTests t) size g ≡ Fault m l) e (names (b .function) m l (b .lies) (b .meets)))
+      go (yes e) = same (subst (λ (g : ℕ). typeFunction t (typing t) (typingTests t) size g ≡ Failed m l) e (names (b .function) m l (b .lies) (b .meets)))
       go (no h) = absurd (apart h)

@@ -15,7 +15,7 @@ use Rattle.model.specs.Rules.{reading}
 use Rattle.model.specs.Faults.{Faults, fails, past, if-guard, if-first, if-second, if-past, while-arriving, while-guard, while-body, while-end, while-past, FaultsFunction, inside as on-the-way, at-return}
 use Rattle.model.specs.InOrder.{chain-le}
 use Rattle.model.specs.Places.{nesting, spans}
-use Rattle.model.specs.Walk.{Walked, Next, Shut, Fault, onNext, onShut, Tests, Right, ifWith, whileWith, instrWith, blockWith, instrAt, inside, functionAt, shut-at, single-at, instr-at}
+use Rattle.model.specs.Walk.{Onward, Halt, Ending, Reached, Failed, onNext, onShut, Tests, Right, ifWith, whileWith, instrWith, typeBlock, typeInstr, inside, typeFunction, shut-at, single-at, instr-at}
 use Rattle.model.specs.declared.Packed.{Packed}
 use Rattle.model.specs.declared.Record.{Record}
 use Rattle.model.specs.declared.Record.the-variants.{Do, Call, If, Else, Endif, While, Endwhile, Return}
@@ -64,10 +64,10 @@ pub else-same : (i : Record) (m n : ℕ) → i ≡ Else m → i ≡ Else n → m
 else-same i m n e f = cc
 
 module _ (t : Table) (R : Rules) (D : Tests R) (g size : ℕ) (ok : Right R D g) where
-  abbrev pub walk : ℕ → ℕ → ℕ → R .Env → Walked (R .Env)
-  walk d k p E = blockWith t R D (instrAt t R D d size) k p E
+  abbrev pub walk : ℕ → ℕ → ℕ → R .Env → Ending (R .Env)
+  walk d k p E = typeBlock t R D (typeInstr t R D d size) k p E
 
-  abbrev pub blocks : ℕ → ℕ → ℕ → R .Env → Walked (R .Env)
+  abbrev pub blocks : ℕ → ℕ → ℕ → R .Env → Ending (R .Env)
   blocks d x = inside t R D size d x
 
   abbrev pub Block : ℕ → R .Env → ℕ → R .Env → Type 0
@@ -77,15 +77,13 @@ module _ (t : Table) (R : Rules) (D : Tests R) (g size : ℕ) (ok : Right R D g)
   Faulty p E n k = Faults t R (D .number) g p E n k
 
   -- ---- what an answer says of the block from p to q
-  abbrev Says : ℕ → R .Env → ℕ → Walked (R .Env) → Type 0
-  Says p E q (Next n F) = ⊥
-  Says p E q (Shut n F) = (n ≡ q) × Block p E q F
-  Says p E q (Fault n k) = Faulty p E n k
+  abbrev Says : ℕ → R .Env → ℕ → Ending (R .Env) → Type 0
+  Says p E q (Reached n F) = (n ≡ q) × Block p E q F
+  Says p E q (Failed n k) = Faulty p E n k
 
-  says-map : (p p′ q : ℕ) (E E′ : R .Env) (w : Walked (R .Env)) → ((F : R .Env) → Block p′ E′ q F → Block p E q F) → ((n k : ℕ) → Faulty p′ E′ n k → Faulty p E n k) → Says p′ E′ q w → Says p E q w
-  says-map p p′ q E E′ (Next n F) f h s = s
-  says-map p p′ q E E′ (Shut n F) f h (e, s) = (e, f F s)
-  says-map p p′ q E E′ (Fault n k) f h s = h n k s
+  says-map : (p p′ q : ℕ) (E E′ : R .Env) (w : Ending (R .Env)) → ((F : R .Env) → Block p′ E′ q F → Block p E q F) → ((n k : ℕ) → Faulty p′ E′ n k → Faulty p E n k) → Says p′ E′ q w → Says p E q w
+  says-map p p′ q E E′ (Reached n F) f h (e, s) = (e, f F s)
+  says-map p p′ q E E′ (Failed n k) f h s = h n k s
 
   -- m: how deep the block is nested
   abbrev SaysRight : ℕ → ℕ → ℕ → Type 0
@@ -96,7 +94,7 @@ module _ (t : Table) (R : Rules) (D : Tests R) (g size : ℕ) (ok : Right R D g)
   blocks-say x p q m h l (suc d) E u = h d size E (omega arith) (omega arith)
 
   says-count : (p q m : ℕ) → p ≤ q → ((d k : ℕ) (E : R .Env) → m ≤ d → q < suc k + p → Says p E q (onNext (instrWith t R D (blocks d p) (t .rec p) p E) (walk d k))) → SaysRight p q m
-  unfolding blockWith
+  unfolding typeBlock
   says-count p q m l h d zero E u v = absurd (omega arith)
   says-count p q m l h d (suc k) E u v = rw (instr-at t R D size d p E) (h d k E u v)
 
@@ -116,17 +114,15 @@ module _ (t : Table) (R : Rules) (D : Tests R) (g size : ℕ) (ok : Right R D g)
   says-if p e n q r x y z i j l l₁ l₂ l₃ in-size A B Z = says-count p q (max (suc (max x y)) z) (omega arith) (λ d k E u v. rw i (go d k E u v))
     where
       second : (d k : ℕ) (E : R .Env) → max (suc (max x y)) z ≤ d → q < suc k + p → R .Public E r → (E₁ : R .Env) → Block (p + 4) (R .guarded E r true) e E₁
-          → (w : Walked (R .Env)) → Says (e + 3) (R .guarded E r false) n w → Says p E q (onNext (onShut w λ n E₂. Next (n + 1) (R .join E₁ E₂)) (walk d k))
-      second d k E u v o E₁ a (Next m F) h = absurd h
-      second d k E u v o E₁ a (Fault m c) h = if-second i o a j h
-      second d k E u v o E₁ a (Shut m E₂) (s, b) = rw s (says-map p (n + 1) q E (R .join E₁ E₂) (walk d k (n + 1) (R .join E₁ E₂))
+          → (w : Ending (R .Env)) → Says (e + 3) (R .guarded E r false) n w → Says p E q (onNext (onShut Halt w λ n E₂. Onward (n + 1) (R .join E₁ E₂)) (walk d k))
+      second d k E u v o E₁ a (Failed m c) h = if-second i o a j h
+      second d k E u v o E₁ a (Reached m E₂) (s, b) = rw s (says-map p (n + 1) q E (R .join E₁ E₂) (walk d k (n + 1) (R .join E₁ E₂))
           (λ F c. branch i o a j b l c) (λ _ _ f. if-past i o a j b l f) (Z d k (R .join E₁ E₂) (omega arith) (omega arith)))
 
-      first : (d k : ℕ) (E : R .Env) → max (suc (max x y)) z ≤ d → q < suc k + p → R .Public E r → (w : Walked (R .Env)) → Says (p + 4) (R .guarded E r true) e w
-          → Says p E q (onNext (onShut w λ e E₁. onShut (blocks d p (e + 3) (R .guarded E r false)) λ n E₂. Next (n + 1) (R .join E₁ E₂)) (walk d k))
-      first d k E u v o (Next m F) h = absurd h
-      first d k E u v o (Fault m c) h = if-first i o h
-      first d k E u v o (Shut m E₁) (s, a) = rw s (second d k E u v o E₁ a (blocks d p (e + 3) (R .guarded E r false)) (blocks-say p (e + 3) n y B (omega arith) d (R .guarded E r false) (omega arith)))
+      first : (d k : ℕ) (E : R .Env) → max (suc (max x y)) z ≤ d → q < suc k + p → R .Public E r → (w : Ending (R .Env)) → Says (p + 4) (R .guarded E r true) e w
+          → Says p E q (onNext (onShut Halt w λ e E₁. onShut Halt (blocks d p (e + 3) (R .guarded E r false)) λ n E₂. Onward (n + 1) (R .join E₁ E₂)) (walk d k))
+      first d k E u v o (Failed m c) h = if-first i o h
+      first d k E u v o (Reached m E₁) (s, a) = rw s (second d k E u v o E₁ a (blocks d p (e + 3) (R .guarded E r false)) (blocks-say p (e + 3) n y B (omega arith) d (R .guarded E r false) (omega arith)))
 
       go : (d k : ℕ) (E : R .Env) → max (suc (max x y)) z ≤ d → q < suc k + p → Says p E q (onNext (ifWith t R D (blocks d p) p r E) (walk d k))
       go d k E u v = pick-ind (λ w. Says p E q (onNext w (walk d k))) (D .public E r)
@@ -140,11 +136,10 @@ module _ (t : Table) (R : Rules) (D : Tests R) (g size : ℕ) (ok : Right R D g)
       L : R .Env
       L = R .loop L₀
 
-      body : (d k : ℕ) (E : R .Env) → max (suc x) z ≤ d → q < suc k + p → R .Within E L → R .Public L r → (w : Walked (R .Env)) → Says (p + 11) (R .guarded L r true) e w
-          → Says p E q (onNext (onShut w λ e E₁. pick (D .within E₁ L) (Next (e + 3) (R .guarded L r false)) (Fault 12 e)) (walk d k))
-      body d k E u v a o (Next m F) h = absurd h
-      body d k E u v a o (Fault m c) h = while-body i a o h
-      body d k E u v a o (Shut m E₁) (s, b) = rw s (pick-ind (λ w. Says p E q (onNext w (walk d k))) (D .within E₁ L)
+      body : (d k : ℕ) (E : R .Env) → max (suc x) z ≤ d → q < suc k + p → R .Within E L → R .Public L r → (w : Ending (R .Env)) → Says (p + 11) (R .guarded L r true) e w
+          → Says p E q (onNext (onShut Halt w λ e E₁. pick (D .within E₁ L) (Onward (e + 3) (R .guarded L r false)) (Halt 12 e)) (walk d k))
+      body d k E u v a o (Failed m c) h = while-body i a o h
+      body d k E u v a o (Reached m E₁) (s, b) = rw s (pick-ind (λ w. Says p E q (onNext w (walk d k))) (D .within E₁ L)
           (λ c. let f = ok .within E₁ L .0 c in says-map p (e + 3) q E (R .guarded L r false) (walk d k (e + 3) (R .guarded L r false))
           (λ F y. loop i a o b j f y) (λ _ _ y. while-past i a o b j f y) (Z d k (R .guarded L r false) (omega arith) (omega arith)))
           (λ c. while-end i a o b j (refuted (D .within E₁ L) (ok .within E₁ L) c) refl))
@@ -175,22 +170,22 @@ module _ (t : Table) (R : Rules) (D : Tests R) (g size : ℕ) (ok : Right R D g)
 
   -- ---- whatever the rules type, the walk types alike
   abbrev pub Complete : ℕ → ℕ → ℕ → Type 0
-  Complete p q m = (d k : ℕ) (E F : R .Env) → m ≤ d → q < k + p → Block p E q F → walk d k p E ≡ Shut q F
+  Complete p q m = (d k : ℕ) (E F : R .Env) → m ≤ d → q < k + p → Block p E q F → walk d k p E ≡ Reached q F
 
   count : (p q m : ℕ) → p ≤ q
-      → ((d k : ℕ) (E F : R .Env) → m ≤ d → q < suc k + p → Block p E q F → onNext (instrWith t R D (blocks d p) (t .rec p) p E) (walk d k) ≡ Shut q F)
+      → ((d k : ℕ) (E F : R .Env) → m ≤ d → q < suc k + p → Block p E q F → onNext (instrWith t R D (blocks d p) (t .rec p) p E) (walk d k) ≡ Reached q F)
       → Complete p q m
-  unfolding blockWith
+  unfolding typeBlock
   count p q m l h d zero E F u v w = absurd (omega arith)
   count p q m l h d (suc k) E F u v w = rw (instr-at t R D size d p E) (h d k E F u v w)
 
-  pub blocks-complete : (x p q m : ℕ) → Complete p q m → q < size → (d : ℕ) (E F : R .Env) → suc m ≤ d → Block p E q F → blocks d x p E ≡ Shut q F
+  pub blocks-complete : (x p q m : ℕ) → Complete p q m → q < size → (d : ℕ) (E F : R .Env) → suc m ≤ d → Block p E q F → blocks d x p E ≡ Reached q F
   blocks-complete x p q m h l zero E F u w = absurd (omega arith)
   blocks-complete x p q m h l (suc d) E F u w = h d size E F (omega arith) (omega arith) w
 
   done-case : (p : ℕ) → Closes (t .rec p) → Complete p p 0
   done-case p c = count p p 0 (le-refl p) (λ d k E F x y w.
-      rw (shut-at t R D (t .rec p) (blocks d p) p E c) (ap (λ (G : R .Env). Shut p G) (sym (begins-shut t R g p p E F (t .rec p) c (begins t R g w c)))))
+      rw (shut-at t R D (t .rec p) (blocks d p) p E c) (ap (λ (G : R .Env). Reached p G) (sym (begins-shut t R g p p E F (t .rec p) c (begins t R g w c)))))
 
   one-case : (p q m : ℕ) → Single (t .rec p) → p + lengthOf (t .rec p) ≤ q → Closes (t .rec q) → Complete (p + lengthOf (t .rec p)) q m → Complete p q m
   one-case p q m i l c h = count p q m (omega arith) (λ d k E F x y w.
@@ -202,7 +197,7 @@ module _ (t : Table) (R : Rules) (D : Tests R) (g size : ℕ) (ok : Right R D g)
       → Complete (p + 4) e x → Complete (e + 3) n y → Complete (n + 1) q z → Complete p q (max (suc (max x y)) z)
   if-case p e n q r x y z i j l₁ l₂ l₃ l c A B Z = count p q (max (suc (max x y)) z) (omega arith) (λ d k E F u v w. rw i (go d k E F u v (subst (Begins t R g p E q F) i (begins t R g w c))))
     where
-      go : (d k : ℕ) (E F : R .Env) → max (suc (max x y)) z ≤ d → q < suc k + p → Begins t R g p E q F (If r e) → onNext (ifWith t R D (blocks d p) p r E) (walk d k) ≡ Shut q F
+      go : (d k : ℕ) (E F : R .Env) → max (suc (max x y)) z ≤ d → q < suc k + p → Begins t R g p E q F (If r e) → onNext (ifWith t R D (blocks d p) p r E) (walk d k) ≡ Reached q F
       go d k E F u v (m, E₁, E₂, o, a, j₂, b, rest) =
           let mn : m ≡ n = else-same (t .rec e) m n j₂ j in
           let b′ : Block (e + 3) (R .guarded E r false) n E₂ = subst (λ (x : ℕ). Block (e + 3) (R .guarded E r false) x E₂) mn b in
@@ -214,7 +209,7 @@ module _ (t : Table) (R : Rules) (D : Tests R) (g size : ℕ) (ok : Right R D g)
       → Complete (p + 11) e x → Complete (e + 3) q z → Complete p q (max (suc x) z)
   while-case p e q r x z L₀ i l₁ l₂ l c A Z = count p q (max (suc x) z) (omega arith) (λ d k E F u v w. rw i (go d k E F u v (subst (Begins t R g p E q F) i (begins t R g w c))))
     where
-      go : (d k : ℕ) (E F : R .Env) → max (suc x) z ≤ d → q < suc k + p → Begins t R g p E q F (While r e L₀) → onNext (whileWith t R D (blocks d p) p r (R .loop L₀) E) (walk d k) ≡ Shut q F
+      go : (d k : ℕ) (E F : R .Env) → max (suc x) z ≤ d → q < suc k + p → Begins t R g p E q F (While r e L₀) → onNext (whileWith t R D (blocks d p) p r (R .loop L₀) E) (walk d k) ≡ Reached q F
       go d k E F u v (E₁, f, o, a, h, rest) =
           rw (ok .within E (R .loop L₀) .1 f, ok .public (R .loop L₀) r .1 o, blocks-complete p (p + 11) e x A (omega arith) d (R .guarded (R .loop L₀) r true) E₁ (omega arith) a, ok .within E₁ (R .loop L₀) .1 h)
           (Z d k (R .guarded (R .loop L₀) r false) F (omega arith) (omega arith) rest)
@@ -231,37 +226,33 @@ module _ (t : Table) (R : Rules) (D : Tests R) (g size : ℕ) (ok : Right R D g)
       (walk-complete a (rw j tt) (below e q size (chain-le t (spans t reading z)) l)) (walk-complete z c l)
 
   -- ---- a function that has been read, nested at most 16 deep
-  abbrev pub Verdict : Walked (R .Env) → Type 0
-  Verdict (Next p E) = ⊥
-  Verdict (Shut p E) = TypesFunction t R g
-  Verdict (Fault n k) = FaultsFunction t R (D .number) g n k
+  abbrev pub Verdict : Ending (R .Env) → Type 0
+  Verdict (Reached p E) = TypesFunction t R g
+  Verdict (Failed n k) = FaultsFunction t R (D .number) g n k
 
   -- what the walk answers holds
-  pub verdict : (s : TypesFunction t reading g) → nesting t reading (s .body) ≤ 16 → t .ret g < size → Verdict (functionAt t R D size g)
-  unfolding functionAt
+  pub verdict : (s : TypesFunction t reading g) → nesting t reading (s .body) ≤ 16 → t .ret g < size → Verdict (typeFunction t R D size g)
+  unfolding typeFunction
   verdict s n l = go (walk 16 size (t .start g) (R .enter g)) (says-right (s .body) (rw (s .returns) tt) l 16 size (R .enter g) n (omega arith))
     where
-      go : (w : Walked (R .Env)) → Says (t .start g) (R .enter g) (t .ret g) w → Verdict (onShut w λ p E. pick (D .within E (R .leave g)) (Shut p E) (Fault 14 p))
-      go (Next p E) h = absurd h
-      go (Fault m p) h = on-the-way h
-      go (Shut p E) (e, h) = pick-ind Verdict (D .within E (R .leave g))
+      go : (w : Ending (R .Env)) → Says (t .start g) (R .enter g) (t .ret g) w → Verdict (onShut Failed w λ p E. pick (D .within E (R .leave g)) (Reached p E) (Failed 14 p))
+      go (Failed m p) h = on-the-way h
+      go (Reached p E) (e, h) = pick-ind Verdict (D .within E (R .leave g))
           (λ b. record { last = E; body = h; returns = s .returns; fits = ok .within E (R .leave g) .0 b })
           (λ b. rw e (at-return E h (s .returns) (refuted (D .within E (R .leave g)) (ok .within E (R .leave g)) b) refl))
 
-  abbrev pub Passes : Walked (R .Env) → Type 0
-  Passes (Next p E) = ⊥
-  Passes (Shut p E) = Unit {0}
-  Passes (Fault n p) = ⊥
+  abbrev pub Passes : Ending (R .Env) → Type 0
+  Passes (Reached p E) = Unit {0}
+  Passes (Failed n p) = ⊥
 
   -- the walk passes exactly the functions that the rules type
-  pub passes-types : (s : TypesFunction t reading g) → nesting t reading (s .body) ≤ 16 → t .ret g < size → Passes (functionAt t R D size g) ↔ TypesFunction t R g
-  unfolding functionAt
-  passes-types s n l = (λ h. typed (functionAt t R D size g) (verdict s n l) h, complete)
+  pub passes-types : (s : TypesFunction t reading g) → nesting t reading (s .body) ≤ 16 → t .ret g < size → Passes (typeFunction t R D size g) ↔ TypesFunction t R g
+  unfolding typeFunction
+  passes-types s n l = (λ h. typed (typeFunction t R D size g) (verdict s n l) h, complete)
     where
-      typed : (w : Walked (R .Env)) → Verdict w → Passes w → TypesFunction t R g
-      typed (Next p E) v h = absurd h
-      typed (Shut p E) v h = v
-      typed (Fault n p) v h = absurd h
+      typed : (w : Ending (R .Env)) → Verdict w → Passes w → TypesFunction t R g
+      typed (Reached p E) v h = v
+      typed (Failed n p) v h = absurd h
 
-      complete : TypesFunction t R g → Passes (functionAt t R D size g)
+      complete : TypesFunction t R g → Passes (typeFunction t R D size g)
       complete h = rw (walk-complete (s .body) (rw (s .returns) tt) l 16 size (R .enter g) (h .last) n (omega arith) (h .body), ok .within (h .last) (R .leave g) .1 (h .fits)) tt

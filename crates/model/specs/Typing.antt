@@ -8,23 +8,22 @@ use Rattle.model.specs.Blocks.{TypesFunction}
 use Rattle.model.specs.Rules.{typing, Typed, reading}
 use Rattle.model.specs.Faults.{FirstFault}
 use Rattle.model.specs.Places.{nesting}
-use Rattle.model.specs.Walk.{Walked, Next, Shut, Fault as Halt, functionAt}
+use Rattle.model.specs.Walk.{Ending, Reached, Failed, typeFunction}
 use Rattle.model.specs.declared.Typing.{Typing}
-use Rattle.model.specs.declared.Typing.the-variants.{Passes as passes, Fault}
+use Rattle.model.specs.declared.Typing.the-variants.{Fault}
 use Rattle.model.specs.Decide.{numberOf, typingTests, typing-right}
 use Rattle.model.specs.Passes.{Verdict, verdict, Passes, passes-types}
 use Rattle.model.specs.Levels.{Env}
 
-abbrev pub onPass : Walked Env → Typing → Typing
-onPass (Next p E) w = Fault 3 p
-onPass (Shut p E) w = w
-onPass (Halt n p) w = Fault n p
+abbrev pub onPass : Ending Env → Typing → Typing
+onPass (Reached p E) w = w
+onPass (Failed n p) w = Fault n p
 
 module _ (t : Table) (size : ℕ) where
   -- the last n functions
   unfoldable pub typeFrom : ℕ → Typing
-  typeFrom zero = passes
-  typeFrom (suc n) = onPass (functionAt t (typing t) (typingTests t) size (t .functions - suc n)) (typeFrom n)
+  typeFrom zero = Typing.Passes
+  typeFrom (suc n) = onPass (typeFunction t (typing t) (typingTests t) size (t .functions - suc n)) (typeFrom n)
 
   abbrev pub typeAll : Typing
   typeAll = typeFrom (t .functions)
@@ -36,7 +35,7 @@ module _ (t : Table) (size : ℕ) where
     pub inside : t .ret g < size
 
   abbrev pub Says : Typing → Type 0
-  Says passes = Typed t
+  Says Typing.Passes = Typed t
   Says (Fault n p) = FirstFault t (typing t) numberOf n p
 
   module _ (read : (g : ℕ) → g < t .functions → Read g) where
@@ -51,7 +50,7 @@ module _ (t : Table) (size : ℕ) where
         let g : ℕ = t .functions - suc n in
         let lg : g < t .functions = omega arith in
         let r = read g lg in
-        go (functionAt t (typing t) (typingTests t) size g) (verdict t (typing t) (typingTests t) g size (typing-right t g) (r .blocks) (r .nested) (r .inside)) (says-from n (omega arith))
+        go (typeFunction t (typing t) (typingTests t) size g) (verdict t (typing t) (typingTests t) g size (typing-right t g) (r .blocks) (r .nested) (r .inside)) (says-from n (omega arith))
       where
         more : TypesFunction t (typing t) (t .functions - suc n) → Before (t .functions - n)
         more d g k = pick-last (native.Mathlib.Decide.ℕ-discrete g (t .functions - suc n))
@@ -60,29 +59,27 @@ module _ (t : Table) (size : ℕ) where
             pick-last (yes e) = rw e d
             pick-last (no h) = b g (omega arith)
 
-        go : (w : Walked Env) → Verdict t (typing t) (typingTests t) (t .functions - suc n) size (typing-right t (t .functions - suc n)) w → (Before (t .functions - n) → Says (typeFrom n)) → Says (onPass w (typeFrom n))
-        go (Next p E) v ih = absurd v
-        go (Shut p E) v ih = ih (more v)
-        go (Halt m p) v ih = record { function = t .functions - suc n; lies = omega arith; before = b; meets = v }
+        go : (w : Ending Env) → Verdict t (typing t) (typingTests t) (t .functions - suc n) size (typing-right t (t .functions - suc n)) w → (Before (t .functions - n) → Says (typeFrom n)) → Says (onPass w (typeFrom n))
+        go (Reached p E) v ih = ih (more v)
+        go (Failed m p) v ih = record { function = t .functions - suc n; lies = omega arith; before = b; meets = v }
 
     -- what typing answers holds: a pass is a derivation for every function, a fault is the first fault
     pub type-says : Says typeAll
     type-says = says-from (t .functions) (omega arith) (λ g k. absurd (omega arith))
 
-    typed-passes : Typed t → (n : ℕ) → n ≤ t .functions → typeFrom n ≡ passes
+    typed-passes : Typed t → (n : ℕ) → n ≤ t .functions → typeFrom n ≡ Typing.Passes
     unfolding typeFrom
     typed-passes d zero l = refl
     typed-passes d (suc n) l =
         let g : ℕ = t .functions - suc n in
         let lg : g < t .functions = omega arith in
         let r = read g lg in
-        go (functionAt t (typing t) (typingTests t) size g) (passes-types t (typing t) (typingTests t) g size (typing-right t g) (r .blocks) (r .nested) (r .inside) .1 (d g lg)) (typed-passes d n (omega arith))
+        go (typeFunction t (typing t) (typingTests t) size g) (passes-types t (typing t) (typingTests t) g size (typing-right t g) (r .blocks) (r .nested) (r .inside) .1 (d g lg)) (typed-passes d n (omega arith))
       where
-        go : (w : Walked Env) → Passes t (typing t) (typingTests t) (t .functions - suc n) size (typing-right t (t .functions - suc n)) w → typeFrom n ≡ passes → onPass w (typeFrom n) ≡ passes
-        go (Next p E) h ih = absurd h
-        go (Shut p E) h ih = ih
-        go (Halt m p) h ih = absurd h
+        go : (w : Ending Env) → Passes t (typing t) (typingTests t) (t .functions - suc n) size (typing-right t (t .functions - suc n)) w → typeFrom n ≡ Typing.Passes → onPass w (typeFrom n) ≡ Typing.Passes
+        go (Reached p E) h ih = ih
+        go (Failed m p) h ih = absurd h
 
     -- typing passes exactly the tables whose every function the rules type
-    pub passes-typed : (typeAll ≡ passes) ↔ Typed t
+    pub passes-typed : (typeAll ≡ Typing.Passes) ↔ Typed t
     passes-typed = (λ e. subst Says e type-says, λ d. typed-passes d (t .functions) (omega arith))

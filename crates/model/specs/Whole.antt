@@ -15,7 +15,7 @@ use Rattle.model.specs.Table.{Table}
 use Rattle.model.specs.Rules.{settle, beside, written, raised, guarded, after, afterOf, typing}
 use Rattle.model.specs.Words.{NoThree, Levelled, levels-in}
 use Rattle.model.specs.Decide.{typingTests, meetsOf}
-use Rattle.model.specs.Walk.{Walked, Next, Shut, Fault, onNext, onShut, ifWith, whileWith, instrWith, blockWith, instrAt}
+use Rattle.model.specs.Walk.{Walking, Onward, Closed, Halt, Ending, Reached, Failed, onNext, onShut, ifWith, whileWith, instrWith, typeBlock, typeInstr}
 use Rattle.model.specs.declared.Packed.{Packed}
 use Rattle.model.specs.declared.Simple.{Simple}
 use Rattle.model.specs.declared.Simple.the-variants.{Const, Op, Select, Load, Store, Init, Update, Protect, LoadFixed, StoreFixed}
@@ -98,16 +98,19 @@ module _ (n m : ℕ) (E : Env) (w : Whole n m E) where
 pub join-whole : (n m : ℕ) (E F : Env) → Whole n m E → Whole n m F → Whole n m (join E F)
 join-whole n m E F w v = record { regs = join-levelled n (E .regs) (F .regs) (w .regs) (v .regs); arrays = join-levelled m (E .arrays) (F .arrays) (w .arrays) (v .arrays) }
 
--- P of the environment where a walk came
-abbrev pub Where : (Env → Type 0) → Walked Env → Type 0
-Where P (Next p E) = P E
-Where P (Shut p E) = P E
-Where P (Fault n p) = Unit {0}
+-- P of the environment where the walk of a record came, and where that of a block ended
+abbrev pub Where : (Env → Type 0) → Walking Env → Type 0
+Where P (Onward p E) = P E
+Where P (Closed p E) = P E
+Where P (Halt n p) = Unit {0}
 
-pub where-map : (P Q : Env → Type 0) → ((E : Env) → P E → Q E) → (w : Walked Env) → Where P w → Where Q w
-where-map P Q f (Next p E) h = f E h
-where-map P Q f (Shut p E) h = f E h
-where-map P Q f (Fault n p) h = tt
+abbrev pub WhereEnds : (Env → Type 0) → Ending Env → Type 0
+WhereEnds P (Reached p E) = P E
+WhereEnds P (Failed n p) = Unit {0}
+
+pub ends-map : (P Q : Env → Type 0) → ((E : Env) → P E → Q E) → (w : Ending Env) → WhereEnds P w → WhereEnds Q w
+ends-map P Q f (Reached p E) h = f E h
+ends-map P Q f (Failed n p) h = tt
 
 -- the walk of a table whose signatures end whole
 module _ (t : Table) (leaves : (f : ℕ) → f < t .functions → Whole (t .registers) (t .arrays) (t .leave f)) where
@@ -118,15 +121,17 @@ module _ (t : Table) (leaves : (f : ℕ) → f < t .functions → Whole (t .regi
   after-of-whole i E = by-single (λ i F. Fits (t .registers) (t .arrays) i → Keeps (t .registers) (t .arrays) (t .functions) i → W E → W F)
       (λ s f k w. after-whole (t .registers) (t .arrays) E w s f) (λ g b f k w. let o = leaves g k in record { regs = o .regs; arrays = o .arrays }) (λ _ f k w. w) i
 
-  abbrev Kept : Walked Env → Type 0
+  abbrev Kept : Walking Env → Type 0
   Kept = Where W
 
-  shut-kept : (w : Walked Env) (f : ℕ → Env → Walked Env) → Kept w → ((p : ℕ) (E : Env) → W E → Kept (f p E)) → Kept (onShut w f)
-  shut-kept (Next p E) f h k = tt
-  shut-kept (Shut p E) f h k = k p E h
-  shut-kept (Fault n p) f h k = tt
+  abbrev KeptBlock : Ending Env → Type 0
+  KeptBlock = WhereEnds W
 
-  module _ (B : ℕ → Env → Walked Env) (hB : (p : ℕ) (E : Env) → W E → Kept (B p E)) where
+  shut-kept : (w : Ending Env) (f : ℕ → Env → Walking Env) → KeptBlock w → ((p : ℕ) (E : Env) → W E → Kept (f p E)) → Kept (onShut Halt w f)
+  shut-kept (Reached p E) f h k = k p E h
+  shut-kept (Failed n p) f h k = tt
+
+  module _ (B : ℕ → Env → Ending Env) (hB : (p : ℕ) (E : Env) → W E → KeptBlock (B p E)) where
     if-kept : (p r : ℕ) (E : Env) → W E → Kept (ifWith t (typing t) (typingTests t) B p r E)
     if-kept p r E w =
         let into : (s : Bool) → W (guarded E r s) = guarded-whole (t .registers) (t .arrays) E w r in
@@ -154,22 +159,22 @@ module _ (t : Table) (leaves : (f : ℕ) → f < t .functions → Whole (t .regi
     instr-kept (Endwhile e) p E f k w = w
     instr-kept Return p E f k w = w
 
-  block-kept : (f : ℕ → Env → Walked Env) → ((p : ℕ) (E : Env) → W E → Kept (f p E)) → (k p : ℕ) (E : Env) → W E → Kept (blockWith t (typing t) (typingTests t) f k p E)
-  unfolding blockWith
+  block-kept : (f : ℕ → Env → Walking Env) → ((p : ℕ) (E : Env) → W E → Kept (f p E)) → (k p : ℕ) (E : Env) → W E → KeptBlock (typeBlock t (typing t) (typingTests t) f k p E)
+  unfolding typeBlock
   block-kept f h zero p E w = tt
   block-kept f h (suc k) p E w = go (f p E) (h p E w) (block-kept f h k)
     where
-      go : (x : Walked Env) → Kept x → ((q : ℕ) (F : Env) → W F → Kept (blockWith t (typing t) (typingTests t) f k q F)) → Kept (onNext x (blockWith t (typing t) (typingTests t) f k))
-      go (Next q F) o ih = ih q F o
-      go (Shut q F) o ih = o
-      go (Fault n q) o ih = tt
+      go : (x : Walking Env) → Kept x → ((q : ℕ) (F : Env) → W F → KeptBlock (typeBlock t (typing t) (typingTests t) f k q F)) → KeptBlock (onNext x (typeBlock t (typing t) (typingTests t) f k))
+      go (Onward q F) o ih = ih q F o
+      go (Closed q F) o ih = o
+      go (Halt n q) o ih = tt
 
   -- a record's walk, and a block's, from a whole environment
-  pub record-whole : (d size p : ℕ) (E : Env) → Whole (t .registers) (t .arrays) E → Where (Whole (t .registers) (t .arrays)) (instrAt t (typing t) (typingTests t) d size p E)
-  unfolding instrAt
-  record-whole zero size p E w = instr-kept (λ q F. Fault 6 p) (λ q F v. tt) (t .rec p) p E (t .fits p) (t .keeps p) w
-  record-whole (suc d) size p E w = instr-kept (blockWith t (typing t) (typingTests t) (instrAt t (typing t) (typingTests t) d size) size)
-      (block-kept (instrAt t (typing t) (typingTests t) d size) (record-whole d size) size) (t .rec p) p E (t .fits p) (t .keeps p) w
+  pub record-whole : (d size p : ℕ) (E : Env) → Whole (t .registers) (t .arrays) E → Where (Whole (t .registers) (t .arrays)) (typeInstr t (typing t) (typingTests t) d size p E)
+  unfolding typeInstr
+  record-whole zero size p E w = instr-kept (λ q F. Failed 6 p) (λ q F v. tt) (t .rec p) p E (t .fits p) (t .keeps p) w
+  record-whole (suc d) size p E w = instr-kept (typeBlock t (typing t) (typingTests t) (typeInstr t (typing t) (typingTests t) d size) size)
+      (block-kept (typeInstr t (typing t) (typingTests t) d size) (record-whole d size) size) (t .rec p) p E (t .fits p) (t .keeps p) w
 
-  pub block-whole : (d size k p : ℕ) (E : Env) → Whole (t .registers) (t .arrays) E → Where (Whole (t .registers) (t .arrays)) (blockWith t (typing t) (typingTests t) (instrAt t (typing t) (typingTests t) d size) k p E)
-  block-whole d size k p E w = block-kept (instrAt t (typing t) (typingTests t) d size) (record-whole d size) k p E w
+  pub block-whole : (d size k p : ℕ) (E : Env) → Whole (t .registers) (t .arrays) E → WhereEnds (Whole (t .registers) (t .arrays)) (typeBlock t (typing t) (typingTests t) (typeInstr t (typing t) (typingTests t) d size) k p E)
+  block-whole d size k p E w = block-kept (typeInstr t (typing t) (typingTests t) d size) (record-whole d size) k p E w

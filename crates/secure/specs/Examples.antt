@@ -10,7 +10,7 @@ use Rattle.model.specs.Tests.{below}
 use Rattle.model.specs.Levels.{joinStatus, sameStatus, within}
 use Rattle.model.specs.Packing.{slot, levelsIn, packedIn}
 use Rattle.model.specs.Rules.{kill, guardStatus, callStatus, settle, beside}
-use Rattle.model.specs.Walk.{blockWith as typeBlock, instrAt as typeInstr, functionAt as typeFunction}
+use Rattle.model.specs.Walk.{typeBlock, typeInstr, typeFunction}
 use Rattle.model.specs.Typing.{typeFrom}
 use Rattle.model.specs.Memory.{offsetIn}
 use Rattle.model.specs.InOrder.{upTo, codeFrom}

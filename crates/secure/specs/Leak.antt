@@ -12,7 +12,7 @@ use Rattle.model.specs.Packing.{slot, levelsIn, packedIn}
 use Rattle.model.specs.Table.{Table, entry}
 use Rattle.model.specs.Blocks.{Rules, TypesFunction, Every, done, one, branch}
 use Rattle.model.specs.Rules.{kill, guardStatus, callStatus, settle, beside, guarded, after, typingBy}
-use Rattle.model.specs.Walk.{blockWith as typeBlock, instrAt as typeInstr, functionAt as typeFunction}
+use Rattle.model.specs.Walk.{typeBlock, typeInstr, typeFunction}
 use Rattle.model.specs.Typing.{typeFrom}
 use Rattle.model.specs.Memory.{offsetIn}
 use Rattle.model.specs.InOrder.{upTo, codeFrom}

@@ -9,7 +9,7 @@ use Rattle.model.specs.declared.Typing.the-variants.{Passes, Fault}
 use Rattle.format.specs.Layout.{tableWith}
 use Rattle.reading.specs.Reading.{readAt}
 use Rattle.reading.specs.declared.Answer.{Answer}
-use Rattle.reading.specs.declared.Answer.the-variants.{Reads, Refused as Unread}
+use Rattle.reading.specs.declared.Answer.the-variants.{Reads}
 use Rattle.typing.specs.declared.Verdict.{Verdict}
 use Rattle.typing.specs.declared.Verdict.the-variants.{Accepted, Refused}
 
@@ -19,7 +19,7 @@ typed z t (Fault n p) = Refused n p
 
 abbrev pub answered : List ℕ → Answer → Verdict
 answered t (Reads z) = typed z t (typeAll (tableWith z t) (suc (length t)))
-answered t (Unread n p) = Refused n p
+answered t (Answer.Refused n p) = Refused n p
 
 unfoldable pub checkAt : List ℕ → Verdict
 checkAt t = answered t (readAt t)

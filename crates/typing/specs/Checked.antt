@@ -17,7 +17,7 @@ use Rattle.format.specs.Layout.{sizesOf, tableOf}
 use Rattle.reading.specs.Reading.{readAt}
 use Rattle.reading.specs.Linked.{sizes-read, all-read}
 use Rattle.reading.specs.declared.Answer.{Answer}
-use Rattle.reading.specs.declared.Answer.the-variants.{Reads, Refused as Unread}
+use Rattle.reading.specs.declared.Answer.the-variants.{Reads}
 use Rattle.typing.specs.declared.Verdict.{Verdict}
 use Rattle.typing.specs.declared.Verdict.the-variants.{Accepted, Refused}
 use Rattle.typing.specs.Check.{typed, answered, checkAt}
@@ -30,7 +30,7 @@ Readable t = readAt t ≡ Reads (sizesOf t)
 -- Accepted F B, "accepted F functions B bytes": it reads, the rules type every function, F and B are its functions and its length.
 -- Refused N P, "refused N at P": it does not read, and N at P is the reading's fault; or it reads, and N at P is the first fault of typing
 pub data Refusal (t : List ℕ) (n p : ℕ) : Type 0 where
-  unread : readAt t ≡ Unread n p → Refusal t n p
+  unread : readAt t ≡ Answer.Refused n p → Refusal t n p
   untyped : Readable t → FirstFault (tableOf t) (typing (tableOf t)) numberOf n p → Refusal t n p
 
 abbrev pub Means : List ℕ → Verdict → Type 0
@@ -43,7 +43,7 @@ module _ (t : List ℕ) where
   typed-means r (Fault n p) s = untyped r s
 
   answered-means : (a : Answer) → readAt t ≡ a → Means t (answered t a)
-  answered-means (Unread n p) e = unread e
+  answered-means (Answer.Refused n p) e = unread e
   answered-means (Reads z) e =
       let s : z ≡ sizesOf t = sizes-read t z e in
       let r : Readable t = e ∙ ap (λ (y : Sizes). Reads y) s in
@@ -70,12 +70,12 @@ module _ (t : List ℕ) where
   pub passes-exactly : Pass (checkAt t) ↔ (Readable t × Typed (tableOf t))
   passes-exactly = (λ h. pass-means (checkAt t) check-means h, λ w. pass-all (w .0) (w .1))
 
-  not-both : (n p : ℕ) → Readable t → readAt t ≡ Unread n p → ⊥
+  not-both : (n p : ℕ) → Readable t → readAt t ≡ Answer.Refused n p → ⊥
   not-both n p r e = subst IsRead (sym r ∙ e) tt
     where
       IsRead : Answer → Type 0
       IsRead (Reads y) = Unit {0}
-      IsRead (Unread m q) = ⊥
+      IsRead (Answer.Refused m q) = ⊥
 
   refusal-one : (n p m q : ℕ) → Refusal t n p → Refusal t m q → (n ≡ m) × (p ≡ q)
   refusal-one n p m q (unread e) (unread f) = let h = sym e ∙ f in (cc, cc)

@@ -2,23 +2,23 @@
 use Prim.Native.Nat.{ℕ, _<_, _≤_}
 use mathlib.Core.List.{List}
 use lib.ListN.{length}
-use Rattle.model.specs.Levels.{Env as Environment}
+use Rattle.model.specs.Levels.{Env}
 use Rattle.model.specs.Packing.{slot, envOf}
 use Rattle.model.specs.Whole.{Whole}
 use Rattle.model.specs.declared.Sizes.{Sizes}
 use Rattle.model.specs.declared.Status.{Status}
 use Rattle.format.specs.Layout.{inOf, outOf}
-use Rattle.typing.specs.declared.Env.{Env}
+use Rattle.typing.specs.declared.WordEnv.{WordEnv}
 
 -- .. of a status, and of two packed words
-abbrev pub envFrom : Status → ℕ → ℕ → Environment
+abbrev pub envFrom : Status → ℕ → ℕ → Env
 envFrom s r a = record { status = s; regs = slot r; arrays = slot a }
 
-abbrev pub viewEnv : Env → Environment
+abbrev pub viewEnv : WordEnv → Env
 viewEnv e = envFrom (e .status) (e .registers) (e .arrays)
 
 -- no slot is 3, and the slots that the table does not use are 0
-abbrev pub Fit : Sizes → Environment → Type 0
+abbrev pub Fit : Sizes → Env → Type 0
 Fit z = Whole (z .registers) (z .arrays)
 
 -- .. of both environments in the signature of f

@@ -4,7 +4,7 @@ use Prim.Native.Nat.{ℕ, _<_}
 use mathlib.Core.Path.{_≡_, subst}
 use mathlib.Core.Bool.{Bool}
 use mathlib.Core.List.{List}
-use Rattle.model.specs.Levels.{Env as Environment}
+use Rattle.model.specs.Levels.{Env}
 use Rattle.model.specs.Packing.{envOf}
 use Rattle.model.specs.Records.{Keeps}
 use Rattle.model.specs.Rules.{guarded}
@@ -33,8 +33,8 @@ module _ (t : List ℕ) (r : Readable t) where
   loops p q e L i = packed-whole (T .registers) (T .arrays) L (subst (Keeps (T .registers) (T .arrays) (T .functions)) i (T .keeps p))
 
   -- from one that keeps to the slots: the first of a block, and wherever the walk of a record comes
-  pub opens : (E : Environment) (q : ℕ) (s : Bool) → Whole (T .registers) (T .arrays) E → Whole (T .registers) (T .arrays) (guarded E q s)
+  pub opens : (E : Env) (q : ℕ) (s : Bool) → Whole (T .registers) (T .arrays) E → Whole (T .registers) (T .arrays) (guarded E q s)
   opens E q s w = guarded-whole (T .registers) (T .arrays) E w q s
 
-  pub goes-on : (d p : ℕ) (E : Environment) → Whole (T .registers) (T .arrays) E → Where (Whole (T .registers) (T .arrays)) (recordWalk (sizesOf t) t d p E)
+  pub goes-on : (d p : ℕ) (E : Env) → Whole (T .registers) (T .arrays) E → Where (Whole (T .registers) (T .arrays)) (recordWalk (sizesOf t) t d p E)
   goes-on d p E w = record-whole T leaves d _ p E w

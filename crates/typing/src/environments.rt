@@ -1,5 +1,5 @@
 // Environments: within, join, and what a block's entry, a call and a packed environment make of them.
-use crate::Env;
+use crate::WordEnv;
 use levels::join_levels;
 use levels::levels_within;
 use model::Packed;
@@ -114,11 +114,11 @@ fn status_of(b: u8) -> Status
     Status::Unknown
 }
 
-// Makes an environment of a status and the packed levels of registers and arrays. No other function writes an `Env` down.
-pub(crate) fn env_from(status: Status, registers: u32, arrays: u32) -> Env
+// Makes an environment of a status and the packed levels of registers and arrays. No other function writes a `WordEnv` down.
+pub(crate) fn env_from(status: Status, registers: u32, arrays: u32) -> WordEnv
     ensures { λ r. ⌜ viewEnv r ≡ envFrom status registers arrays ⌝ }
 {
-    Env {
+    WordEnv {
         status,
         registers,
         arrays,
@@ -126,14 +126,14 @@ pub(crate) fn env_from(status: Status, registers: u32, arrays: u32) -> Env
 }
 
 // What seven bytes mean: the two words go over as they are.
-pub(crate) fn env_of(p: Packed) -> Env
+pub(crate) fn env_of(p: Packed) -> WordEnv
     ensures { λ r. ⌜ viewEnv r ≡ envOf p ⌝ }
 {
     env_from(status_of(p.status), p.registers, p.arrays)
 }
 
 // e is within f, over any number of slots that both keep to.
-pub(crate) fn env_within(e: Env, f: Env) -> bool
+pub(crate) fn env_within(e: WordEnv, f: WordEnv) -> bool
     ensures { λ r. ⌜ ((n m : ℕ) → Whole n m (viewEnv e) → Whole n m (viewEnv f) → r ≡ within n m (viewEnv e) (viewEnv f)) ⌝ }
 {
     let s = e.status;
@@ -148,7 +148,7 @@ pub(crate) fn env_within(e: Env, f: Env) -> bool
 }
 
 // The larger level slot by slot; equal statuses stay, others become unknown.
-pub(crate) fn join_envs(e: Env, f: Env) -> Env
+pub(crate) fn join_envs(e: WordEnv, f: WordEnv) -> WordEnv
     requires { ⌜ NoThrees (viewEnv e) × NoThrees (viewEnv f) ⌝ }
     ensures { λ r. ⌜ viewEnv r ≡ join (viewEnv e) (viewEnv f) ⌝ }
 {
@@ -161,7 +161,7 @@ pub(crate) fn join_envs(e: Env, f: Env) -> Env
 }
 
 // Entering a block on register r, which is not zero (true) or zero (false).
-pub(crate) fn guarded_env(e: Env, r: u8, s: bool) -> Env
+pub(crate) fn guarded_env(e: WordEnv, r: u8, s: bool) -> WordEnv
     ensures { λ x. ⌜ viewEnv x ≡ guarded (viewEnv e) r s ⌝ }
 {
     let u = e.status;
@@ -169,7 +169,7 @@ pub(crate) fn guarded_env(e: Env, r: u8, s: bool) -> Env
 }
 
 // After a CALL: the callee's out levels.
-pub(crate) fn returned_env(out: Env, mark: bool, e: Env) -> Env
+pub(crate) fn returned_env(out: WordEnv, mark: bool, e: WordEnv) -> WordEnv
     ensures { λ x. ⌜ viewEnv x ≡ returned (viewEnv out) mark (viewEnv e) ⌝ }
 {
     let u = out.status;

@@ -1,4 +1,5 @@
 // Document 01, "Typing, record by record": the check of a table.
+use model::Ended;
 use model::Status;
 use model::Typing;
 use model::Walked;
@@ -12,16 +13,22 @@ mod walks;
 
 // An environment: a status, and the levels of the registers and of the arrays, packed two bits a slot. The seven bytes of a
 // table hold as much, but for the status: there it is never outdated.
-pub struct Env {
+pub struct WordEnv {
     pub status: Status,
     pub registers: u32,
     pub arrays: u32,
 }
 
-// How far a walk came, and the environment there. At a fault the environment says nothing.
+// How far the walk of a record came, and the environment there. At a fault the environment says nothing.
 pub struct Walk {
     pub to: Walked,
-    pub env: Env,
+    pub env: WordEnv,
+}
+
+// How the walk of a block ended, and the environment there; at a fault it says nothing.
+pub struct BlockEnd {
+    pub to: Ended,
+    pub env: WordEnv,
 }
 
 // What the check of a table answers: how many functions it accepts in how many bytes; or the first fault with its place.

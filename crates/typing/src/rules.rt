@@ -1,5 +1,5 @@
 // The rules for single records: what a record asks of the environment, and the environment after it.
-use crate::Env;
+use crate::WordEnv;
 use crate::environments::env_from;
 use crate::environments::killed;
 use crate::environments::same_status;
@@ -27,14 +27,14 @@ ghost use Rattle.model.specs.Words.{NoThree};
 ghost use Rattle.typing.specs.Envs.{viewEnv, Small};
 
 // Register i is public.
-pub(crate) fn is_public(e: Env, i: u8) -> bool
+pub(crate) fn is_public(e: WordEnv, i: u8) -> bool
     ensures { λ r. ⌜ r ≡ eqb (viewEnv e .regs i) 0 ⌝ }
 {
     level(e.registers, i) == 0
 }
 
 // 10 where register i, an index, is not public.
-fn index_fault(e: Env, i: u8) -> u8
+fn index_fault(e: WordEnv, i: u8) -> u8
     ensures { λ r. ⌜ r ≡ pick (eqb (viewEnv e .regs i) 0) 0 10 ⌝ }
 {
     if is_public(e, i) {
@@ -44,7 +44,7 @@ fn index_fault(e: Env, i: u8) -> u8
 }
 
 // 11 where the status is not s.
-fn status_fault(e: Env, s: Status) -> u8
+fn status_fault(e: WordEnv, s: Status) -> u8
     ensures { λ r. ⌜ r ≡ pick (sameStatus (viewEnv e .status) s) 0 11 ⌝ }
 {
     let a = e.status;
@@ -55,7 +55,7 @@ fn status_fault(e: Env, s: Status) -> u8
 }
 
 // The number of a simple record's fault; 0 where the environment gives it what it asks.
-pub(crate) fn fault_of(s: Simple, e: Env) -> u8
+pub(crate) fn fault_of(s: Simple, e: WordEnv) -> u8
     ensures { λ r. ⌜ r ≡ faultOf s (viewEnv e) ⌝ }
 {
     match s {
@@ -73,7 +73,7 @@ pub(crate) fn fault_of(s: Simple, e: Env) -> u8
 }
 
 // Register d written at level l.
-fn written_env(e: Env, d: u8, l: u8) -> Env
+fn written_env(e: WordEnv, d: u8, l: u8) -> WordEnv
     requires { ⌜ (d < 16) × (l < 4) ⌝ }
     ensures { λ r. ⌜ viewEnv r ≡ written (viewEnv e) d l ⌝ }
 {
@@ -82,7 +82,7 @@ fn written_env(e: Env, d: u8, l: u8) -> Env
     env_from(killed(d, s), registers, e.arrays)
 }
 
-fn after_op(e: Env, dest: u8, left: u8, right: u8) -> Env
+fn after_op(e: WordEnv, dest: u8, left: u8, right: u8) -> WordEnv
     requires { ⌜ dest < 16 ⌝ }
     ensures { λ r. ⌜ viewEnv r ≡ written (viewEnv e) dest (max (viewEnv e .regs left) (viewEnv e .regs right)) ⌝ }
 {
@@ -90,7 +90,7 @@ fn after_op(e: Env, dest: u8, left: u8, right: u8) -> Env
     written_env(e, dest, larger(level(a, left), level(a, right)))
 }
 
-fn after_select(e: Env, dest: u8, cond: u8, yes: u8, no: u8) -> Env
+fn after_select(e: WordEnv, dest: u8, cond: u8, yes: u8, no: u8) -> WordEnv
     requires { ⌜ dest < 16 ⌝ }
     ensures { λ r. ⌜ viewEnv r ≡ written (viewEnv e) dest (max (viewEnv e .regs cond) (max (viewEnv e .regs yes) (viewEnv e .regs no))) ⌝ }
 {
@@ -103,7 +103,7 @@ fn after_select(e: Env, dest: u8, cond: u8, yes: u8, no: u8) -> Env
 }
 
 // A stray read may find anything that is not public: never public.
-fn after_load(e: Env, dest: u8, array: u8) -> Env
+fn after_load(e: WordEnv, dest: u8, array: u8) -> WordEnv
     requires { ⌜ dest < 16 ⌝ }
     ensures { λ r. ⌜ viewEnv r ≡ written (viewEnv e) dest (max 1 (viewEnv e .arrays array)) ⌝ }
 {
@@ -112,7 +112,7 @@ fn after_load(e: Env, dest: u8, array: u8) -> Env
 }
 
 // A fixed place is never left, not even while misspeculating: the array's own level.
-fn after_load_fixed(e: Env, dest: u8, array: u8) -> Env
+fn after_load_fixed(e: WordEnv, dest: u8, array: u8) -> WordEnv
     requires { ⌜ dest < 16 ⌝ }
     ensures { λ r. ⌜ viewEnv r ≡ written (viewEnv e) dest (viewEnv e .arrays array) ⌝ }
 {
@@ -121,7 +121,7 @@ fn after_load_fixed(e: Env, dest: u8, array: u8) -> Env
 }
 
 // The named array raised to the source's level, beside the others at the levels given.
-fn raised_env(e: Env, others: u32, array: u8, source: u8) -> Env
+fn raised_env(e: WordEnv, others: u32, array: u8, source: u8) -> WordEnv
     requires { ⌜ array < 16 ⌝ }
     ensures { λ r. ⌜ viewEnv r ≡ raised (viewEnv e) (slot others) array (viewEnv e .regs source) ⌝ }
 {
@@ -143,7 +143,7 @@ fn beside_levels(arrays: u32, count: u8, l: u8) -> u32
 }
 
 // A stray write may reach every array.
-fn after_store(z: Sizes, e: Env, array: u8, source: u8) -> Env
+fn after_store(z: Sizes, e: WordEnv, array: u8, source: u8) -> WordEnv
     requires { ⌜ Small z × (array < 16) × NoThrees (viewEnv e) ⌝ }
     ensures { λ r. ⌜ viewEnv r ≡ stored (z .arrays) (viewEnv e) array source ⌝ }
 {
@@ -153,7 +153,7 @@ fn after_store(z: Sizes, e: Env, array: u8, source: u8) -> Env
 }
 
 // A write at a fixed place reaches no other array.
-fn after_store_fixed(e: Env, array: u8, source: u8) -> Env
+fn after_store_fixed(e: WordEnv, array: u8, source: u8) -> WordEnv
     requires { ⌜ array < 16 ⌝ }
     ensures { λ r. ⌜ viewEnv r ≡ storedFixed (viewEnv e) array source ⌝ }
 {
@@ -161,7 +161,7 @@ fn after_store_fixed(e: Env, array: u8, source: u8) -> Env
     raised_env(e, others, array, source)
 }
 
-fn after_init(e: Env) -> Env
+fn after_init(e: WordEnv) -> WordEnv
     requires { ⌜ NoThrees (viewEnv e) ⌝ }
     ensures { λ r. ⌜ viewEnv r ≡ fenced (viewEnv e) ⌝ }
 {
@@ -170,13 +170,13 @@ fn after_init(e: Env) -> Env
     env_from(Status::Updated, registers, arrays)
 }
 
-fn after_update(e: Env) -> Env
+fn after_update(e: WordEnv) -> WordEnv
     ensures { λ r. ⌜ viewEnv r ≡ updated (viewEnv e) ⌝ }
 {
     env_from(Status::Updated, e.registers, e.arrays)
 }
 
-fn after_protect(e: Env, dest: u8, source: u8) -> Env
+fn after_protect(e: WordEnv, dest: u8, source: u8) -> WordEnv
     requires { ⌜ dest < 16 ⌝ }
     ensures { λ r. ⌜ viewEnv r ≡ protected (viewEnv e) dest source ⌝ }
 {
@@ -186,7 +186,7 @@ fn after_protect(e: Env, dest: u8, source: u8) -> Env
 }
 
 // The environment after a simple record whose fields are in range.
-pub(crate) fn after_simple(z: Sizes, s: Simple, e: Env) -> Env
+pub(crate) fn after_simple(z: Sizes, s: Simple, e: WordEnv) -> WordEnv
     requires { ⌜ Small z × SimpleFits (z .registers) (z .arrays) s × NoThrees (viewEnv e) ⌝ }
     ensures { λ r. ⌜ viewEnv r ≡ after (z .arrays) s (viewEnv e) ⌝ }
 {

@@ -1,7 +1,8 @@
 // The typing walk: blocks and records in table order, the environment carried along. The readers' cycle once more: what falls
 // is the nesting that is left, and within a block the bytes left.
-use crate::Env;
+use crate::BlockEnd;
 use crate::Walk;
+use crate::WordEnv;
 use crate::environments::env_of;
 use crate::environments::env_within;
 use crate::environments::guarded_env;
@@ -11,6 +12,7 @@ use crate::rules::after_simple;
 use crate::rules::fault_of;
 use crate::rules::is_public;
 use format::Decoded;
+use model::Ended;
 use model::Packed;
 use model::Record;
 use model::Simple;
@@ -23,14 +25,14 @@ ghost use lib.ListN.{length};
 ghost use Rattle.model.specs.Packing.{envOf};
 ghost use Rattle.model.specs.Records.{SimpleFits};
 ghost use Rattle.model.specs.Typing.{typeFrom};
-ghost use Rattle.model.specs.Walk.{Shut as Closed};
-ghost use Rattle.model.specs.Whole.{NoThrees, Where};
+ghost use Rattle.model.specs.Walk.{Closed};
+ghost use Rattle.model.specs.Whole.{NoThrees, WhereEnds};
 ghost use Rattle.model.specs.declared.Sizes.{Sizes};
 ghost use Rattle.typing.specs.Envs.{viewEnv, Fit, Signed, Small, Ready};
-ghost use Rattle.typing.specs.Walks.{viewWalk, Close, bare, simpleWalk, callWalk, joinWalk, backWalk, table, size, recordWalk, blockWalk, ifWalk, whileWalk, functionWalk};
+ghost use Rattle.typing.specs.Walks.{viewWalk, viewEnd, Close, bare, simpleWalk, callWalk, joinWalk, backWalk, table, size, recordWalk, blockWalk, ifWalk, whileWalk, functionWalk};
 
 // The simple record at `at`, with `next` after it.
-fn simple(z: Sizes, s: Simple, at: usize, next: usize, e: Env) -> Walk
+fn simple(z: Sizes, s: Simple, at: usize, next: usize, e: WordEnv) -> Walk
     requires { ⌜ Small z × SimpleFits (z .registers) (z .arrays) s × NoThrees (viewEnv e) ⌝ }
     ensures { λ r. ⌜ viewWalk r ≡ simpleWalk z s at next (viewEnv e) ⌝ }
 {
@@ -49,7 +51,7 @@ fn simple(z: Sizes, s: Simple, at: usize, next: usize, e: Env) -> Walk
 }
 
 // The CALL of a function at `at`, with `next` after it.
-fn call(t: &[u8], z: Sizes, function: u8, mark: bool, at: usize, next: usize, e: Env) -> Walk
+fn call(t: &[u8], z: Sizes, function: u8, mark: bool, at: usize, next: usize, e: WordEnv) -> Walk
     requires { ⌜ Signed z (now t) function × Fit z (viewEnv e) ⌝ }
     ensures { λ r. ⌜ viewWalk r ≡ callWalk z (now (t .entry)) function mark at next (viewEnv e) ⌝ }
 {
@@ -69,7 +71,7 @@ fn call(t: &[u8], z: Sizes, function: u8, mark: bool, at: usize, next: usize, e:
 }
 
 // The IF on a register at `at`: both blocks, then their join.
-fn branch(t: &[u8], z: Sizes, at: usize, register: u8, depth: u8, e: Env) -> Walk
+fn branch(t: &[u8], z: Sizes, at: usize, register: u8, depth: u8, e: WordEnv) -> Walk
     requires { ⌜ Ready z (now t) at depth × (at + 4 ≤ length (now t)) × Fit z (viewEnv e) ⌝ }
     ensures { λ r. ⌜ viewWalk r ≡ ifWalk z (now (t .entry)) depth at register (viewEnv e) ⌝ }
 {
@@ -84,9 +86,8 @@ fn branch(t: &[u8], z: Sizes, at: usize, register: u8, depth: u8, e: Env) -> Wal
     let to1 = first.to;
     let env1 = first.env;
     match to1 {
-        Walked::Next(p) => fault(3, p, env1),
-        Walked::Fault(n, p) => fault(n, p, env1),
-        Walked::Shut(p) => {
+        Ended::Fault(n, p) => fault(n, p, env1),
+        Ended::Shut(p) => {
             let other = guarded_env(e, register, false);
             let second = block(t, z, p + 3, depth - 1, other);
             joined(env1, second)
@@ -94,7 +95,7 @@ fn branch(t: &[u8], z: Sizes, at: usize, register: u8, depth: u8, e: Env) -> Wal
     }
 }
 
-fn fault(n: u8, p: usize, env: Env) -> Walk
+fn fault(n: u8, p: usize, env: WordEnv) -> Walk
     ensures { λ r. ⌜ r .to ≡ Walked.Fault n p ⌝ }
 {
     Walk {
@@ -104,16 +105,15 @@ fn fault(n: u8, p: usize, env: Env) -> Walk
 }
 
 // The end of an IF whose first block ended in env1.
-fn joined(env1: Env, second: Walk) -> Walk
-    requires { ⌜ Close (second .to) × NoThrees (viewEnv env1) × Where NoThrees (viewWalk second) ⌝ }
-    ensures { λ r. ⌜ viewWalk r ≡ joinWalk (viewEnv env1) (viewWalk second) ⌝ }
+fn joined(env1: WordEnv, second: BlockEnd) -> Walk
+    requires { ⌜ Close (second .to) × NoThrees (viewEnv env1) × WhereEnds NoThrees (viewEnd second) ⌝ }
+    ensures { λ r. ⌜ viewWalk r ≡ joinWalk (viewEnv env1) (viewEnd second) ⌝ }
 {
     let to = second.to;
     let env2 = second.env;
     match to {
-        Walked::Next(q) => fault(3, q, env2),
-        Walked::Fault(n, q) => fault(n, q, env2),
-        Walked::Shut(q) => {
+        Ended::Fault(n, q) => fault(n, q, env2),
+        Ended::Shut(q) => {
             let env = join_envs(env1, env2);
             Walk {
                 to: Walked::Next(q + 1),
@@ -124,7 +124,15 @@ fn joined(env1: Env, second: Walk) -> Walk
 }
 
 // The WHILE on a register at `at`, with its loop environment. What arrives is compared before the guard is looked at.
-fn repeat(t: &[u8], z: Sizes, at: usize, register: u8, packed: Packed, depth: u8, e: Env) -> Walk
+fn repeat(
+    t: &[u8],
+    z: Sizes,
+    at: usize,
+    register: u8,
+    packed: Packed,
+    depth: u8,
+    e: WordEnv,
+) -> Walk
     requires { ⌜ Ready z (now t) at depth × (at + 11 ≤ length (now t)) × Fit z (viewEnv e) × Fit z (envOf packed) ⌝ }
     ensures { λ r. ⌜ viewWalk r ≡ whileWalk z (now (t .entry)) depth at register packed (viewEnv e) ⌝ }
 {
@@ -144,16 +152,15 @@ fn repeat(t: &[u8], z: Sizes, at: usize, register: u8, packed: Packed, depth: u8
 }
 
 // The end of a loop's body: back to the loop environment, and past the loop. So for any sizes that both keep to.
-fn back(register: u8, packed: Packed, body: Walk) -> Walk
+fn back(register: u8, packed: Packed, body: BlockEnd) -> Walk
     requires { ⌜ Close (body .to) ⌝ }
-    ensures { λ r. ⌜ ((z : Sizes) → Where (Fit z) (viewWalk body) → Fit z (envOf packed) → viewWalk r ≡ backWalk z register packed (viewWalk body)) ⌝ }
+    ensures { λ r. ⌜ ((z : Sizes) → WhereEnds (Fit z) (viewEnd body) → Fit z (envOf packed) → viewWalk r ≡ backWalk z register packed (viewEnd body)) ⌝ }
 {
     let to = body.to;
     let env1 = body.env;
     match to {
-        Walked::Next(p) => fault(3, p, env1),
-        Walked::Fault(n, p) => fault(n, p, env1),
-        Walked::Shut(p) => {
+        Ended::Fault(n, p) => fault(n, p, env1),
+        Ended::Shut(p) => {
             let kept = env_of(packed);
             if !env_within(env1, kept) {
                 return fault(12, p, env1);
@@ -168,7 +175,7 @@ fn back(register: u8, packed: Packed, body: Walk) -> Walk
 }
 
 // The record at `at`. Where none can be read, RETURN stands for it.
-fn one(t: &[u8], z: Sizes, at: usize, depth: u8, e: Env) -> Walk
+fn one(t: &[u8], z: Sizes, at: usize, depth: u8, e: WordEnv) -> Walk
     requires { ⌜ Ready z (now t) at depth × Fit z (viewEnv e) ⌝ }
     ensures { λ r. ⌜ viewWalk r ≡ recordWalk z (now (t .entry)) depth at (viewEnv e) ⌝ }
 {
@@ -188,7 +195,7 @@ fn one(t: &[u8], z: Sizes, at: usize, depth: u8, e: Env) -> Walk
     }
 }
 
-fn shut(at: usize, env: Env) -> Walk
+fn shut(at: usize, env: WordEnv) -> Walk
     ensures { λ r. ⌜ viewWalk r ≡ Closed at (viewEnv env) ⌝ }
 {
     Walk {
@@ -198,9 +205,9 @@ fn shut(at: usize, env: Env) -> Walk
 }
 
 // The records from `from` on, up to the one that closes the block.
-fn block(t: &[u8], z: Sizes, from: usize, depth: u8, env: Env) -> Walk
+fn block(t: &[u8], z: Sizes, from: usize, depth: u8, env: WordEnv) -> BlockEnd
     requires { ⌜ Ready z (now t) from depth × Fit z (viewEnv env) ⌝ }
-    ensures { λ r. ⌜ viewWalk r ≡ blockWalk z (now (t .entry)) depth (size z (now (t .entry))) from (viewEnv env) ⌝ }
+    ensures { λ r. ⌜ viewEnd r ≡ blockWalk z (now (t .entry)) depth (size z (now (t .entry))) from (viewEnv env) ⌝ }
 {
     let mut at = from;
     let mut e = env;
@@ -214,17 +221,23 @@ fn block(t: &[u8], z: Sizes, from: usize, depth: u8, env: Env) -> Walk
                 e = f;
             }
             Walked::Shut(p) => {
-                return shut(p, f);
+                return BlockEnd {
+                    to: Ended::Shut(p),
+                    env: f,
+                };
             }
             Walked::Fault(n, p) => {
-                return fault(n, p, f);
+                return BlockEnd {
+                    to: Ended::Fault(n, p),
+                    env: f,
+                };
             }
         }
     }
 }
 
 // Function g, from its in-environment to its RETURN.
-fn function(t: &[u8], z: Sizes, g: u8) -> Walked
+fn function(t: &[u8], z: Sizes, g: u8) -> Ended
     requires { ⌜ Ready z (now t) 0 16 × (g < z .functions) ⌝ }
     ensures { λ r. ⌜ r ≡ bare (functionWalk z (now (t .entry)) g) ⌝ }
 {
@@ -234,14 +247,13 @@ fn function(t: &[u8], z: Sizes, g: u8) -> Walked
     let to = w.to;
     let e = w.env;
     match to {
-        Walked::Next(p) => Walked::Fault(3, p),
-        Walked::Fault(n, p) => Walked::Fault(n, p),
-        Walked::Shut(p) => {
+        Ended::Fault(n, p) => Ended::Fault(n, p),
+        Ended::Shut(p) => {
             let out = env_of(layout::out_of(t, z, g));
             if env_within(e, out) {
-                return Walked::Shut(p);
+                return Ended::Shut(p);
             }
-            Walked::Fault(14, p)
+            Ended::Fault(14, p)
         }
     }
 }
@@ -257,8 +269,7 @@ pub(crate) fn functions(t: &[u8], z: Sizes, n: u8) -> Typing
     let g = z.functions - n;
     let w = function(t, z, g);
     match w {
-        Walked::Next(p) => Typing::Fault(3, p),
-        Walked::Fault(k, p) => Typing::Fault(k, p),
-        Walked::Shut(p) => functions(t, z, n - 1),
+        Ended::Fault(k, p) => Typing::Fault(k, p),
+        Ended::Shut(p) => functions(t, z, n - 1),
     }
 }

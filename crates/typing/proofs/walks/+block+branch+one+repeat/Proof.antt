@@ -11,15 +11,15 @@ use borrow.Fn.PlainCycle.{Measures, is, falls, and}
 use Rattle.model.specs.declared.Record.{Record}
 use Rattle.model.specs.Rules.{guarded}
 use Rattle.model.specs.Records.{Fits, Keeps, lengthOf}
-use Rattle.model.specs.Levels.{Env as Environment}
+use Rattle.model.specs.Levels.{Env}
 use Rattle.format.specs.Laws.{good}
 use Rattle.model.specs.Packing.{envOf}
-use Rattle.model.specs.Whole.{NoThrees, no-threes, packed-whole, where-map}
-use Rattle.typing.specs.Walks.{viewWalk, simpleWalk, callWalk, joinWalk, backWalk, size, blockWalk}
+use Rattle.model.specs.Whole.{NoThrees, no-threes, packed-whole, ends-map}
+use Rattle.typing.specs.Walks.{viewEnd, simpleWalk, callWalk, joinWalk, backWalk, size, blockWalk}
 use Rattle.typing.specs.Envs.{viewEnv, Fit}
 use Rattle.typing.proofs.Ready.{moved}
 use Rattle.format.specs.Layout.{record-got, record-bad}
-use Rattle.typing.proofs.Turns.{arrived, halts, at-shut, guarded-fit, next-fit, walk-fit, within-packed, record-is, if-private, if-deep, if-is, while-out, while-private, while-deep, while-is, shut-near, block-close, next-ok, turn-next, turn-shut, turn-fault}
+use Rattle.typing.proofs.Turns.{arrived, halts, arrived-end, at-shut, guarded-fit, next-fit, walk-fit, within-packed, record-is, if-private, if-deep, if-is, while-out, while-private, while-deep, while-is, shut-near, block-close, next-ok, turn-next, turn-shut, turn-fault}
 use Rattle.typing.proofs.walks.block.Reads as block
 use Rattle.typing.proofs.walks.block.Kinds as block-kinds
 use Rattle.typing.proofs.walks.+block+branch+one+repeat.Lts-block as block-lts
@@ -91,10 +91,6 @@ block-μ-loop t z from depth at₀ e₀ at e = length t - at
 block-loop-holds : (t : ℕ) → block-lts.Need-loop-holds (
   one-below t,
   one.Post,
-  shut-reads.Asked,
-  shut-reads.Learnt,
-  fault-reads.Asked,
-  fault-reads.Learnt,
 ) (block-at t) block.Post block-Inv-loop block-μ-loop
 block-loop-holds t c =
     let a = c .before .args in
@@ -103,10 +99,6 @@ block-loop-holds t c =
 block-one-requires : (t : ℕ) → block-lts.Need-one-requires (
   one-below t,
   one.Post,
-  shut-reads.Asked,
-  shut-reads.Learnt,
-  fault-reads.Asked,
-  fault-reads.Learnt,
 ) (block-at t) block.Post block-Inv-loop block-μ-loop
 block-one-requires t c κs =
     let p = c .before .before .pre .1 .0 in
@@ -116,20 +108,12 @@ block-one-requires t c κs =
 block-enum-known-to : (t : ℕ) → block-lts.Need-enum-known-to (
   one-below t,
   one.Post,
-  shut-reads.Asked,
-  shut-reads.Learnt,
-  fault-reads.Asked,
-  fault-reads.Learnt,
 ) (block-at t) block.Post block-Inv-loop block-μ-loop
 block-enum-known-to t c = search needs
 
 block-loop-less : (t : ℕ) → block-lts.Need-loop-less (
   one-below t,
   one.Post,
-  shut-reads.Asked,
-  shut-reads.Learnt,
-  fault-reads.Asked,
-  fault-reads.Learnt,
 ) (block-at t) block.Post block-Inv-loop block-μ-loop
 block-loop-less t c =
     let a = c .before .before .before .before .before .before .before .args in
@@ -141,10 +125,6 @@ block-loop-less t c =
 block-loop-again : (t : ℕ) → block-lts.Need-loop-again (
   one-below t,
   one.Post,
-  shut-reads.Asked,
-  shut-reads.Learnt,
-  fault-reads.Asked,
-  fault-reads.Learnt,
 ) (block-at t) block.Post block-Inv-loop block-μ-loop
 block-loop-again t c =
     let a = c .before .before .before .before .before .before .before .args in
@@ -158,70 +138,34 @@ block-loop-again t c =
 block-enum-known-to-2 : (t : ℕ) → block-lts.Need-enum-known-to-2 (
   one-below t,
   one.Post,
-  shut-reads.Asked,
-  shut-reads.Learnt,
-  fault-reads.Asked,
-  fault-reads.Learnt,
 ) (block-at t) block.Post block-Inv-loop block-μ-loop
 block-enum-known-to-2 t c = search needs
-
-block-shut-requires : (t : ℕ) → block-lts.Need-shut-requires (
-  one-below t,
-  one.Post,
-  shut-reads.Asked,
-  shut-reads.Learnt,
-  fault-reads.Asked,
-  fault-reads.Learnt,
-) (block-at t) block.Post block-Inv-loop block-μ-loop
-block-shut-requires t c κs = search needs
 
 block-returns : (t : ℕ) → block-lts.Need-returns (
   one-below t,
   one.Post,
-  shut-reads.Asked,
-  shut-reads.Learnt,
-  fault-reads.Asked,
-  fault-reads.Learnt,
 ) (block-at t) block.Post block-Inv-loop block-μ-loop
 block-returns t c =
-    let a = c .before .before .before .before .before .before .before .before .args in
-    let L = c .before .before .before .before .before .before .loop in
-    let e = arrived (c .before .before .before .before .before .one .result) (c .before .before .before .before .before .one .ensures) (c .before .before .to2 .given .1) in
-    c .shut .ensures ∙ sym (L .inv .4 ∙ turn-shut (a .z) (a .t .now) (a .depth) (L .inv .0) (L .at) (viewEnv (L .e)) e (L .inv .1))
+    let a = c .before .before .before .before .before .before .before .args in
+    let L = c .before .before .before .before .before .loop in
+    let e = arrived (c .before .before .before .before .one .result) (c .before .before .before .before .one .ensures) (c .before .to2 .given .1) in
+    sym (L .inv .4 ∙ turn-shut (a .z) (a .t .now) (a .depth) (L .inv .0) (L .at) (viewEnv (L .e)) e (L .inv .1))
 
 block-enum-known-to-3 : (t : ℕ) → block-lts.Need-enum-known-to-3 (
   one-below t,
   one.Post,
-  shut-reads.Asked,
-  shut-reads.Learnt,
-  fault-reads.Asked,
-  fault-reads.Learnt,
 ) (block-at t) block.Post block-Inv-loop block-μ-loop
 block-enum-known-to-3 t c = search needs
-
-block-fault-requires : (t : ℕ) → block-lts.Need-fault-requires (
-  one-below t,
-  one.Post,
-  shut-reads.Asked,
-  shut-reads.Learnt,
-  fault-reads.Asked,
-  fault-reads.Learnt,
-) (block-at t) block.Post block-Inv-loop block-μ-loop
-block-fault-requires t c κs = search needs
 
 block-returns-2 : (t : ℕ) → block-lts.Need-returns-2 (
   one-below t,
   one.Post,
-  shut-reads.Asked,
-  shut-reads.Learnt,
-  fault-reads.Asked,
-  fault-reads.Learnt,
 ) (block-at t) block.Post block-Inv-loop block-μ-loop
 block-returns-2 t c =
-    let a = c .before .before .before .before .before .before .before .before .args in
-    let L = c .before .before .before .before .before .before .loop in
-    let e = arrived (c .before .before .before .before .before .one .result) (c .before .before .before .before .before .one .ensures) (c .before .before .to3 .given .1) in
-    halts (c .fault .result) (c .fault .ensures) ∙ sym (L .inv .4 ∙ turn-fault (a .z) (a .t .now) (a .depth) (L .inv .0) (L .at) (viewEnv (L .e)) e (L .inv .1))
+    let a = c .before .before .before .before .before .before .before .args in
+    let L = c .before .before .before .before .before .loop in
+    let e = arrived (c .before .before .before .before .one .result) (c .before .before .before .before .one .ensures) (c .before .to3 .given .1) in
+    sym (L .inv .4 ∙ turn-fault (a .z) (a .t .now) (a .depth) (L .inv .0) (L .at) (viewEnv (L .e)) e (L .inv .1))
 
 branch-is-public-requires : (t : ℕ) → branch-lts.Need-is-public-requires (
   is-public-reads.Asked,
@@ -405,34 +349,6 @@ branch-enum-known-to1-2 : (t : ℕ) → branch-lts.Need-enum-known-to1-2 (
 ) (branch-at t) branch.Post
 branch-enum-known-to1-2 t c = search needs
 
-branch-fault-requires-4 : (t : ℕ) → branch-lts.Need-fault-requires-4 (
-  is-public-reads.Asked,
-  is-public-reads.Learnt,
-  fault-reads.Asked,
-  fault-reads.Learnt,
-  guarded-env-reads.Asked,
-  guarded-env-reads.Learnt,
-  block-below t,
-  block.Post,
-  joined-reads.Asked,
-  joined-reads.Learnt,
-) (branch-at t) branch.Post
-branch-fault-requires-4 t c κs = search needs
-
-branch-enum-known-to1-3 : (t : ℕ) → branch-lts.Need-enum-known-to1-3 (
-  is-public-reads.Asked,
-  is-public-reads.Learnt,
-  fault-reads.Asked,
-  fault-reads.Learnt,
-  guarded-env-reads.Asked,
-  guarded-env-reads.Learnt,
-  block-below t,
-  block.Post,
-  joined-reads.Asked,
-  joined-reads.Learnt,
-) (branch-at t) branch.Post
-branch-enum-known-to1-3 t c = search needs
-
 branch-guarded-env-requires-2 : (t : ℕ) → branch-lts.Need-guarded-env-requires-2 (
   is-public-reads.Asked,
   is-public-reads.Learnt,
@@ -462,9 +378,9 @@ branch-add-block-2 : (t : ℕ) → branch-lts.Need-add-block-2 (
 branch-add-block-2 t c =
     let a = c .before .before .before .before .before .before .before .before .before .before .before .args in
     let p = c .before .before .before .before .before .before .before .before .before .before .before .pre .1 .0 in
-    let b = arrived (c .before .before .before .before .before .block .result) (c .before .before .before .before .before .block .ensures) (c .before .before .to13 .given .1) in
+    let b = arrived-end (c .before .before .before .before .before .block .result) (c .before .before .before .before .before .block .ensures) (c .before .before .to12 .given .1) in
     let s = shut-near (a .z) (a .t .now) (a .depth - 1) (size (a .z) (a .t .now)) (a .at + 4) (viewEnv (c .before .before .before .before .before .before .guarded-env .result)) b in
-    let u : c .before .before .to13 .given .0 .0 ≤ 200000 = omega (arith, s, p .short, p .near, p .shallow) in
+    let u : c .before .before .to12 .given .0 .0 ≤ 200000 = omega (arith, s, p .short, p .near, p .shallow) in
     search needs
 
 branch-sub-block-2 : (t : ℕ) → branch-lts.Need-sub-block-2 (
@@ -499,7 +415,7 @@ branch-block-requires-2 t c κs =
     let m = c .before .before .before .before .before .before .before .before .before .before .before .pre .0 in
     let p = c .before .before .before .before .before .before .before .before .before .before .before .pre .1 .0 in
     let l = c .before .before .before .before .before .before .before .before .before .before .before .pre .1 .1 in
-    let b = arrived (c .before .before .before .before .before .block .result) (c .before .before .before .before .before .block .ensures) (c .before .before .to13 .given .1) in
+    let b = arrived-end (c .before .before .before .before .before .block .result) (c .before .before .before .before .before .block .ensures) (c .before .before .to12 .given .1) in
     let s = shut-near (a .z) (a .t .now) (a .depth - 1) (size (a .z) (a .t .now)) (a .at + 4) (viewEnv (c .before .before .before .before .before .before .guarded-env .result)) b in
     (omega arith, (moved p (omega (arith, s, p .short, p .shallow)) (omega (arith, p .shallow)), guarded-fit (a .z) (viewEnv (a .e)) (a .register) false (c .before .before .before .before .before .before .before .before .before .before .before .pre .1 .2) (c .guarded-env2 .ensures)))
 
@@ -519,7 +435,7 @@ branch-joined-requires t c κs =
     let a = c .before .before .before .before .before .before .before .before .before .before .before .before .args in
     let p = c .before .before .before .before .before .before .before .before .before .before .before .before .pre .1 .0 in
     let l = c .before .before .before .before .before .before .before .before .before .before .before .before .pre .1 .1 in
-    let b = arrived (c .before .before .before .before .before .before .block .result) (c .before .before .before .before .before .before .block .ensures) (c .before .before .before .to13 .given .1) in
+    let b = arrived-end (c .before .before .before .before .before .before .block .result) (c .before .before .before .before .before .before .block .ensures) (c .before .before .before .to12 .given .1) in
     let s = shut-near (a .z) (a .t .now) (a .depth - 1) (size (a .z) (a .t .now)) (a .at + 4) (viewEnv (c .before .before .before .before .before .before .before .guarded-env .result)) b in
     let f = c .before .before .before .before .before .before .before .before .before .before .before .before .pre .1 .2 in
     let f1 = guarded-fit (a .z) (viewEnv (a .e)) (a .register) true f (c .before .before .before .before .before .before .before .guarded-env .ensures) in
@@ -527,8 +443,8 @@ branch-joined-requires t c κs =
     let w1 = walk-fit (a .z) (a .t .now) p _ _ _ _ (c .before .before .before .before .before .before .block .result) f1 (c .before .before .before .before .before .before .block .ensures) in
     let w2 = walk-fit (a .z) (a .t .now) p _ _ _ _ (c .block2 .result) f2 (c .block2 .ensures) in (
       block-close (a .z) (a .t .now) (a .depth - 1) (size (a .z) (a .t .now)) _ (viewEnv (c .before .guarded-env2 .result)) (c .block2 .result) (p .short) (omega (arith, s, p .short, p .shallow)) (omega (arith, p .shallow)) (c .block2 .ensures),
-      no-threes _ _ _ (at-shut (Fit (a .z)) (c .before .before .before .before .before .before .block .result) (c .before .before .before .to13 .given .1) w1),
-      where-map (Fit (a .z)) NoThrees (no-threes (a .z .registers) (a .z .arrays)) (viewWalk (c .block2 .result)) w2,
+      no-threes _ _ _ (at-shut (Fit (a .z)) (c .before .before .before .before .before .before .block .result) (c .before .before .before .to12 .given .1) w1),
+      ends-map (Fit (a .z)) NoThrees (no-threes (a .z .registers) (a .z .arrays)) (viewEnd (c .block2 .result)) w2,
     )
 
 branch-returns-3 : (t : ℕ) → branch-lts.Need-returns-3 (
@@ -546,7 +462,7 @@ branch-returns-3 : (t : ℕ) → branch-lts.Need-returns-3 (
 branch-returns-3 t c =
     let a = c .before .before .before .before .before .before .before .before .before .before .before .args in
     let h = sym (c .before .before .before .before .before .before .before .before .before .is-public .ensures) ∙ not-false (c .before .before .before .before .before .before .before .before .before .is-public .result) (c .before .before .before .before .before .before .before .before .if1 .left) in
-    let b = ap (blockWalk (a .z) (a .t .now) (a .depth - 1) (size (a .z) (a .t .now)) (a .at + 4)) (sym (c .before .before .before .before .before .before .guarded-env .ensures)) ∙ arrived (c .before .before .before .before .before .block .result) (c .before .before .before .before .before .block .ensures) (c .before .before .to1 .given .1) in
+    let b = ap (blockWalk (a .z) (a .t .now) (a .depth - 1) (size (a .z) (a .t .now)) (a .at + 4)) (sym (c .before .before .before .before .before .before .guarded-env .ensures)) ∙ arrived-end (c .before .before .before .before .before .block .result) (c .before .before .before .before .before .block .ensures) (c .before .before .to1 .given .1) in
     halts (c .fault3 .result) (c .fault3 .ensures) ∙ if-is (a .z) (a .t .now) (a .depth) (a .at) (a .register) (viewEnv (a .e)) h (c .before .before .before .before .before .before .before .if2 .left) b
 
 branch-returns-4 : (t : ℕ) → branch-lts.Need-returns-4 (
@@ -562,27 +478,9 @@ branch-returns-4 : (t : ℕ) → branch-lts.Need-returns-4 (
   joined-reads.Learnt,
 ) (branch-at t) branch.Post
 branch-returns-4 t c =
-    let a = c .before .before .before .before .before .before .before .before .before .before .before .args in
-    let h = sym (c .before .before .before .before .before .before .before .before .before .is-public .ensures) ∙ not-false (c .before .before .before .before .before .before .before .before .before .is-public .result) (c .before .before .before .before .before .before .before .before .if1 .left) in
-    let b = ap (blockWalk (a .z) (a .t .now) (a .depth - 1) (size (a .z) (a .t .now)) (a .at + 4)) (sym (c .before .before .before .before .before .before .guarded-env .ensures)) ∙ arrived (c .before .before .before .before .before .block .result) (c .before .before .before .before .before .block .ensures) (c .before .before .to12 .given .1) in
-    halts (c .fault4 .result) (c .fault4 .ensures) ∙ if-is (a .z) (a .t .now) (a .depth) (a .at) (a .register) (viewEnv (a .e)) h (c .before .before .before .before .before .before .before .if2 .left) b
-
-branch-returns-5 : (t : ℕ) → branch-lts.Need-returns-5 (
-  is-public-reads.Asked,
-  is-public-reads.Learnt,
-  fault-reads.Asked,
-  fault-reads.Learnt,
-  guarded-env-reads.Asked,
-  guarded-env-reads.Learnt,
-  block-below t,
-  block.Post,
-  joined-reads.Asked,
-  joined-reads.Learnt,
-) (branch-at t) branch.Post
-branch-returns-5 t c =
     let a = c .before .before .before .before .before .before .before .before .before .before .before .before .before .args in
     let h = sym (c .before .before .before .before .before .before .before .before .before .before .before .is-public .ensures) ∙ not-false (c .before .before .before .before .before .before .before .before .before .before .before .is-public .result) (c .before .before .before .before .before .before .before .before .before .before .if1 .left) in
-    let b = ap (blockWalk (a .z) (a .t .now) (a .depth - 1) (size (a .z) (a .t .now)) (a .at + 4)) (sym (c .before .before .before .before .before .before .before .before .guarded-env .ensures)) ∙ arrived (c .before .before .before .before .before .before .before .block .result) (c .before .before .before .before .before .before .before .block .ensures) (c .before .before .before .before .to13 .given .1) in
+    let b = ap (blockWalk (a .z) (a .t .now) (a .depth - 1) (size (a .z) (a .t .now)) (a .at + 4)) (sym (c .before .before .before .before .before .before .before .before .guarded-env .ensures)) ∙ arrived-end (c .before .before .before .before .before .before .before .block .result) (c .before .before .before .before .before .before .before .block .ensures) (c .before .before .before .before .to12 .given .1) in
     let d = c .before .block2 .ensures ∙ ap (blockWalk (a .z) (a .t .now) (a .depth - 1) (size (a .z) (a .t .now)) _) (c .before .before .guarded-env2 .ensures) in
     c .joined .ensures ∙ ap (joinWalk (viewEnv (c .before .before .before .before .before .before .before .block .result .env))) d ∙ if-is (a .z) (a .t .now) (a .depth) (a .at) (a .register) (viewEnv (a .e)) h (c .before .before .before .before .before .before .before .before .before .if2 .left) b
 
@@ -1242,7 +1140,7 @@ repeat-returns-2 t c =
     let a = c .before .before .before .before .before .before .before .args in
     let p = c .before .before .before .before .before .before .before .pre .1 in
     let w = within-packed (a .z) (viewEnv (a .e)) (a .packed) (p .2) (p .3) (c .before .before .before .before .env-within .ensures) (c .before .before .before .before .before .env-of .ensures) (not-false (c .before .before .before .before .env-within .result) (c .before .before .before .if1 .left)) in
-    let h = ap (λ (E : Environment). eqb (E .regs (a .register)) 0) (sym (c .before .before .before .before .before .env-of .ensures)) ∙ sym (c .before .before .is-public .ensures) ∙ not-true (c .before .before .is-public .result) (c .before .if2 .taken) in
+    let h = ap (λ (E : Env). eqb (E .regs (a .register)) 0) (sym (c .before .before .before .before .before .env-of .ensures)) ∙ sym (c .before .before .is-public .ensures) ∙ not-true (c .before .before .is-public .result) (c .before .if2 .taken) in
     halts (c .fault2 .result) (c .fault2 .ensures) ∙ while-private (a .z) (a .t .now) (a .depth) (a .at) (a .register) (a .packed) (viewEnv (a .e)) w h
 
 repeat-fault-requires-3 : (t : ℕ) → repeat-lts.Need-fault-requires-3 (
@@ -1283,7 +1181,7 @@ repeat-returns-3 t c =
     let a = c .before .before .before .before .before .before .before .before .args in
     let p = c .before .before .before .before .before .before .before .before .pre .1 in
     let w = within-packed (a .z) (viewEnv (a .e)) (a .packed) (p .2) (p .3) (c .before .before .before .before .before .env-within .ensures) (c .before .before .before .before .before .before .env-of .ensures) (not-false (c .before .before .before .before .before .env-within .result) (c .before .before .before .before .if1 .left)) in
-    let h = ap (λ (E : Environment). eqb (E .regs (a .register)) 0) (sym (c .before .before .before .before .before .before .env-of .ensures)) ∙ sym (c .before .before .before .is-public .ensures) ∙ not-false (c .before .before .before .is-public .result) (c .before .before .if2 .left) in
+    let h = ap (λ (E : Env). eqb (E .regs (a .register)) 0) (sym (c .before .before .before .before .before .before .env-of .ensures)) ∙ sym (c .before .before .before .is-public .ensures) ∙ not-false (c .before .before .before .is-public .result) (c .before .before .if2 .left) in
     halts (c .fault3 .result) (c .fault3 .ensures) ∙ while-deep (a .z) (a .t .now) (a .depth) (a .at) (a .register) (a .packed) (viewEnv (a .e)) w h (c .before .if3 .taken)
 
 repeat-guarded-env-requires : (t : ℕ) → repeat-lts.Need-guarded-env-requires (
@@ -1364,7 +1262,7 @@ repeat-block-requires t c κs =
     let p = c .before .before .before .before .before .before .before .before .pre .1 .0 in
     let l = c .before .before .before .before .before .before .before .before .pre .1 .1 in
     let a = c .before .before .before .before .before .before .before .before .args in
-    let g = c .guarded-env .ensures ∙ ap (λ (E : Environment). guarded E (a .register) true) (c .before .before .before .before .before .before .env-of .ensures) in
+    let g = c .guarded-env .ensures ∙ ap (λ (E : Env). guarded E (a .register) true) (c .before .before .before .before .before .before .env-of .ensures) in
     (omega arith, (moved p (omega (arith, p .short)) (omega (arith, p .shallow)), guarded-fit (a .z) (envOf (a .packed)) (a .register) true (c .before .before .before .before .before .before .before .before .pre .1 .3) g))
 
 repeat-back-requires : (t : ℕ) → repeat-lts.Need-back-requires (
@@ -1409,8 +1307,8 @@ repeat-returns-4 t c =
     let a = c .before .before .before .before .before .before .before .before .before .before .args in
     let p = c .before .before .before .before .before .before .before .before .before .before .pre .1 in
     let w = within-packed (a .z) (viewEnv (a .e)) (a .packed) (p .2) (p .3) (c .before .before .before .before .before .before .before .env-within .ensures) (c .before .before .before .before .before .before .before .before .env-of .ensures) (not-false (c .before .before .before .before .before .before .before .env-within .result) (c .before .before .before .before .before .before .if1 .left)) in
-    let h = ap (λ (E : Environment). eqb (E .regs (a .register)) 0) (sym (c .before .before .before .before .before .before .before .before .env-of .ensures)) ∙ sym (c .before .before .before .before .before .is-public .ensures) ∙ not-false (c .before .before .before .before .before .is-public .result) (c .before .before .before .before .if2 .left) in
-    let g = c .before .before .guarded-env .ensures ∙ ap (λ (E : Environment). guarded E (a .register) true) (c .before .before .before .before .before .before .before .before .env-of .ensures) in
+    let h = ap (λ (E : Env). eqb (E .regs (a .register)) 0) (sym (c .before .before .before .before .before .before .before .before .env-of .ensures)) ∙ sym (c .before .before .before .before .before .is-public .ensures) ∙ not-false (c .before .before .before .before .before .is-public .result) (c .before .before .before .before .if2 .left) in
+    let g = c .before .before .guarded-env .ensures ∙ ap (λ (E : Env). guarded E (a .register) true) (c .before .before .before .before .before .before .before .before .env-of .ensures) in
     let d = c .before .block .ensures ∙ ap (blockWalk (a .z) (a .t .now) (a .depth - 1) (size (a .z) (a .t .now)) (a .at + 11)) g in
     let f = walk-fit (a .z) (a .t .now) (p .0) _ _ _ _ (c .before .block .result) (guarded-fit (a .z) (envOf (a .packed)) (a .register) true (p .3) g) (c .before .block .ensures) in
     c .back .ensures (a .z) f (p .3) ∙ ap (backWalk (a .z) (a .register) (a .packed)) d ∙ while-is (a .z) (a .t .now) (a .depth) (a .at) (a .register) (a .packed) (viewEnv (a .e)) w h (c .before .before .before .if3 .left)
@@ -1419,10 +1317,6 @@ pub +block+branch+one+repeat-spec : {M : Type 1} → statement M
 +block+branch+one+repeat-spec = close μ-block μ-branch μ-one μ-repeat (λ t. block-lts.spec (
   one-below t,
   one.Post,
-  shut-reads.Asked,
-  shut-reads.Learnt,
-  fault-reads.Asked,
-  fault-reads.Learnt,
 )
     (block-at t)
     block.Post
@@ -1434,10 +1328,8 @@ pub +block+branch+one+repeat-spec : {M : Type 1} → statement M
     (block-loop-less t)
     (block-loop-again t)
     (block-enum-known-to-2 t)
-    (block-shut-requires t)
     (block-returns t)
     (block-enum-known-to-3 t)
-    (block-fault-requires t)
     (block-returns-2 t))
     (λ t. branch-lts.spec (
       is-public-reads.Asked,
@@ -1465,16 +1357,13 @@ pub +block+branch+one+repeat-spec : {M : Type 1} → statement M
     (branch-enum-known-to1 t)
     (branch-fault-requires-3 t)
     (branch-enum-known-to1-2 t)
-    (branch-fault-requires-4 t)
-    (branch-enum-known-to1-3 t)
     (branch-guarded-env-requires-2 t)
     (branch-add-block-2 t)
     (branch-sub-block-2 t)
     (branch-block-requires-2 t)
     (branch-joined-requires t)
     (branch-returns-3 t)
-    (branch-returns-4 t)
-    (branch-returns-5 t))
+    (branch-returns-4 t))
     (λ t. one-lts.spec (
       decode-reads.Asked,
       decode-reads.Learnt,

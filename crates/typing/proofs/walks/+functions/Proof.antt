@@ -64,14 +64,6 @@ functions-enum-known-w-2 : (t : ℕ) → functions-lts.Need-enum-known-w-2 (
 ) (functions-at t) functions.Post
 functions-enum-known-w-2 t c = search needs
 
-functions-enum-known-w-3 : (t : ℕ) → functions-lts.Need-enum-known-w-3 (
-  function-reads.Asked,
-  function-reads.Learnt,
-  functions-below t,
-  functions.Post,
-) (functions-at t) functions.Post
-functions-enum-known-w-3 t c = search needs
-
 functions-sub-functions : (t : ℕ) → functions-lts.Need-sub-functions (
   function-reads.Asked,
   function-reads.Learnt,
@@ -109,18 +101,8 @@ functions-returns-3 : (t : ℕ) → functions-lts.Need-returns-3 (
   functions.Post,
 ) (functions-at t) functions.Post
 functions-returns-3 t c =
-    let a = c .before .before .before .before .before .before .before .args in
-    functions-is (a .z) (a .t .now) (a .n) (c .before .before .before .before .before .if1 .left) (sym (c .before .before .before .function .ensures) ∙ c .before .w2 .given .1)
-
-functions-returns-4 : (t : ℕ) → functions-lts.Need-returns-4 (
-  function-reads.Asked,
-  function-reads.Learnt,
-  functions-below t,
-  functions.Post,
-) (functions-at t) functions.Post
-functions-returns-4 t c =
     let a = c .before .before .before .before .before .before .before .before .args in
-    c .functions .ensures ∙ functions-is (a .z) (a .t .now) (a .n) (c .before .before .before .before .before .before .if1 .left) (sym (c .before .before .before .before .function .ensures) ∙ c .before .before .w3 .given .1)
+    c .functions .ensures ∙ functions-is (a .z) (a .t .now) (a .n) (c .before .before .before .before .before .before .if1 .left) (sym (c .before .before .before .before .function .ensures) ∙ c .before .before .w2 .given .1)
 
 pub +functions-spec : {M : Type 1} → statement M
 +functions-spec = close μ-functions λ t. functions-lts.spec (
@@ -136,9 +118,7 @@ pub +functions-spec : {M : Type 1} → statement M
     (functions-function-requires t)
     (functions-enum-known-w t)
     (functions-enum-known-w-2 t)
-    (functions-enum-known-w-3 t)
     (functions-sub-functions t)
     (functions-functions-requires t)
     (functions-returns-2 t)
     (functions-returns-3 t)
-    (functions-returns-4 t)

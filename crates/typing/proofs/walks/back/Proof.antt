@@ -3,10 +3,10 @@ use mathlib.Core.Path.{sym, ap, subst, _∙_}
 use borrow.Author.Tests.{not-true, not-false}
 use borrow.Author.Needs.{needs}
 use Rattle.model.specs.Rules.{guarded}
-use Rattle.model.specs.Levels.{Env as Environment}
+use Rattle.model.specs.Levels.{Env}
 use Rattle.typing.specs.Walks.{backWalk, Close}
 use Rattle.typing.specs.Envs.{viewEnv, Fit}
-use Rattle.typing.proofs.Turns.{seen, halts, at-shut, within-packed, back-on, back-out}
+use Rattle.typing.proofs.Turns.{halts, seen-end, at-shut, within-packed, back-on, back-out}
 use Rattle.typing.proofs.walks.back.Statement.{statement}
 use Rattle.typing.proofs.walks.back.Tie as tie
 use Rattle.typing.proofs.walks.back.Reads as reads
@@ -25,53 +25,42 @@ fault-requires c κs = search needs
 enum-known-to-2 : tie.Need-enum-known-to-2
 enum-known-to-2 c = search needs
 
-fault-requires-2 : tie.Need-fault-requires-2
-fault-requires-2 c κs = search needs
-
-enum-known-to-3 : tie.Need-enum-known-to-3
-enum-known-to-3 c = search needs
-
 env-of-requires : tie.Need-env-of-requires
 env-of-requires c κs = search needs
 
 env-within-requires : tie.Need-env-within-requires
 env-within-requires c κs = search needs
 
-fault-requires-3 : tie.Need-fault-requires-3
-fault-requires-3 c κs = search needs
+fault-requires-2 : tie.Need-fault-requires-2
+fault-requires-2 c κs = search needs
 
 returns : tie.Need-returns
 returns c = λ z f k.
     let a = c .before .before .before .before .before .before .before .before .args in
     let e = viewEnv (a .body .env) in
-    let w = within-packed z e (a .packed) (at-shut (Fit z) (a .body) (c .before .before .before .before .before .to3 .given .1) f) k (c .before .before .env-within .ensures) (c .before .before .before .env-of .ensures) (not-true (c .before .before .env-within .result) (c .before .if1 .taken)) in
-    halts (c .fault3 .result) (c .fault3 .ensures) ∙ back-out z (a .register) (a .packed) _ e w ∙ sym (ap (backWalk z (a .register) (a .packed)) (seen (a .body) (c .before .before .before .before .before .to3 .given .1)))
+    let w = within-packed z e (a .packed) (at-shut (Fit z) (a .body) (c .before .before .before .before .before .to2 .given .1) f) k (c .before .before .env-within .ensures) (c .before .before .before .env-of .ensures) (not-true (c .before .before .env-within .result) (c .before .if1 .taken)) in
+    halts (c .fault2 .result) (c .fault2 .ensures) ∙ back-out z (a .register) (a .packed) _ e w ∙ sym (ap (backWalk z (a .register) (a .packed)) (seen-end (a .body) (c .before .before .before .before .before .to2 .given .1)))
 
 guarded-env-requires : tie.Need-guarded-env-requires
 guarded-env-requires c κs = search needs
 
-add-t15 : tie.Need-add-t15
-add-t15 c =
-    let h = subst Close (c .before .before .before .before .before .to3 .given .1) (c .before .before .before .before .before .before .before .before .pre) in
+add-t14 : tie.Need-add-t14
+add-t14 c =
+    let h = subst Close (c .before .before .before .before .before .to2 .given .1) (c .before .before .before .before .before .before .before .before .pre) in
     search needs
 
 returns-2 : tie.Need-returns-2
 returns-2 c = λ z f k.
     let a = c .before .before .before .before .before .args in
-    halts (c .fault .result) (c .fault .ensures) ∙ sym (ap (backWalk z (a .register) (a .packed)) (seen (a .body) (c .before .before .to .given .1)))
+    halts (c .fault .result) (c .fault .ensures) ∙ sym (ap (backWalk z (a .register) (a .packed)) (seen-end (a .body) (c .before .before .to .given .1)))
 
 returns-3 : tie.Need-returns-3
 returns-3 c = λ z f k.
-    let a = c .before .before .before .before .before .args in
-    halts (c .fault2 .result) (c .fault2 .ensures) ∙ sym (ap (backWalk z (a .register) (a .packed)) (seen (a .body) (c .before .before .to2 .given .1)))
-
-returns-4 : tie.Need-returns-4
-returns-4 c = λ z f k.
     let a = c .before .before .before .before .before .before .before .before .args in
     let e = viewEnv (a .body .env) in
-    let w = within-packed z e (a .packed) (at-shut (Fit z) (a .body) (c .before .before .before .before .before .to3 .given .1) f) k (c .before .before .env-within .ensures) (c .before .before .before .env-of .ensures) (not-false (c .before .before .env-within .result) (c .before .if1 .left)) in
-    let g = c .guarded-env .ensures ∙ ap (λ (E : Environment). guarded E (a .register) false) (c .before .before .before .env-of .ensures) in
-    back-on z (a .register) (a .packed) _ e w g ∙ sym (ap (backWalk z (a .register) (a .packed)) (seen (a .body) (c .before .before .before .before .before .to3 .given .1)))
+    let w = within-packed z e (a .packed) (at-shut (Fit z) (a .body) (c .before .before .before .before .before .to2 .given .1) f) k (c .before .before .env-within .ensures) (c .before .before .before .env-of .ensures) (not-false (c .before .before .env-within .result) (c .before .if1 .left)) in
+    let g = c .guarded-env .ensures ∙ ap (λ (E : Env). guarded E (a .register) false) (c .before .before .before .env-of .ensures) in
+    back-on z (a .register) (a .packed) _ e w g ∙ sym (ap (backWalk z (a .register) (a .packed)) (seen-end (a .body) (c .before .before .before .before .before .to2 .given .1)))
 
 pub back-spec : {M : Type 1} → statement M
 back-spec =
@@ -80,14 +69,11 @@ back-spec =
     enum-known-to
     fault-requires
     enum-known-to-2
-    fault-requires-2
-    enum-known-to-3
     env-of-requires
     env-within-requires
-    fault-requires-3
+    fault-requires-2
     returns
     guarded-env-requires
-    add-t15
+    add-t14
     returns-2
-    returns-3
-    returns-4)
+    returns-3)

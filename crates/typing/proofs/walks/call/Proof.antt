@@ -2,7 +2,7 @@ use mathlib.Core.Path.{ap, _∙_}
 use borrow.Author.Needs.{needs}
 use Rattle.model.specs.Rules.{returned}
 use Rattle.model.specs.Packing.{envOf}
-use Rattle.model.specs.Levels.{Env as Environment}
+use Rattle.model.specs.Levels.{Env}
 use Rattle.format.specs.Layout.{inOf}
 use Rattle.typing.specs.Envs.{viewEnv}
 use Rattle.typing.proofs.Turns.{within-packed, call-on, call-out}
@@ -39,7 +39,7 @@ returns c =
     let a = c .before .before .before .before .before .before .before .before .args in
     let p = c .before .before .before .before .before .before .before .before .pre in
     let w = within-packed (a .z) (viewEnv (a .e)) (inOf (a .z) (a .t .now) (a .function)) (p .1) (p .0 .0) (c .before .before .before .before .env-within .ensures) (c .before .before .before .before .before .env-of .ensures ∙ ap envOf (c .before .before .before .before .before .before .in-of .ensures)) (c .before .before .before .if1 .taken) in
-    let o = c .returned-env .ensures ∙ ap (λ (E : Environment). returned E (a .mark) (viewEnv (a .e))) (c .before .env-of2 .ensures ∙ ap envOf (c .before .before .out-of .ensures)) in
+    let o = c .returned-env .ensures ∙ ap (λ (E : Env). returned E (a .mark) (viewEnv (a .e))) (c .before .env-of2 .ensures ∙ ap envOf (c .before .before .out-of .ensures)) in
     call-on (a .z) (a .t .now) (a .function) (a .mark) (a .at) (a .next) (viewEnv (a .e)) w o
 
 returns-2 : tie.Need-returns-2

@@ -6,7 +6,7 @@ use Rattle.format.specs.Layout.{outOf}
 use Rattle.typing.specs.Walks.{bare}
 use Rattle.typing.specs.Envs.{viewEnv, Fit}
 use Rattle.typing.proofs.Ready.{moved}
-use Rattle.typing.proofs.Turns.{seen, at-shut, within-packed, walk-fit, function-block, function-is, function-on, function-out}
+use Rattle.typing.proofs.Turns.{seen-end, at-shut, within-packed, walk-fit, function-block, function-is, function-on, function-out}
 use Rattle.typing.proofs.walks.function.Statement.{statement}
 use Rattle.typing.proofs.walks.function.Tie as tie
 use Rattle.typing.proofs.walks.function.Reads as reads
@@ -40,9 +40,6 @@ enum-known-to c = search needs
 enum-known-to-2 : tie.Need-enum-known-to-2
 enum-known-to-2 c = search needs
 
-enum-known-to-3 : tie.Need-enum-known-to-3
-enum-known-to-3 c = search needs
-
 out-of-requires : tie.Need-out-of-requires
 out-of-requires c κs = search needs
 
@@ -59,30 +56,25 @@ returns c =
     let e = viewEnv (c .before .before .before .before .before .before .before .before .block .result .env) in
     let into = c .before .before .before .before .before .before .before .before .before .env-of .ensures ∙ ap envOf (c .before .before .before .before .before .before .before .before .before .before .in-of .ensures) in
     let f = walk-fit (a .z) (a .t .now) (p .0) 16 _ _ _ (c .before .before .before .before .before .before .before .before .block .result) (subst (Fit (a .z)) (sym into) (p .0 .signed (a .g) (p .1) .0)) (c .before .before .before .before .before .before .before .before .block .ensures) in
-    let w = within-packed (a .z) e (outOf (a .z) (a .t .now) (a .g)) (at-shut (Fit (a .z)) (c .before .before .before .before .before .before .before .before .block .result) (c .before .before .before .before .before .to3 .given .1) f) (p .0 .signed (a .g) (p .1) .1) (c .before .env-within .ensures) (c .before .before .env-of2 .ensures ∙ ap envOf (c .before .before .before .out-of .ensures)) (c .if1 .taken) in
-    let b = function-block (a .z) (a .t .now) (a .g) (c .before .before .before .before .before .before .before .before .before .before .before .start-of .ensures .0) into (c .before .before .before .before .before .before .before .before .block .ensures) (seen (c .before .before .before .before .before .before .before .before .block .result) (c .before .before .before .before .before .to3 .given .1)) in
-    ap bare (function-on (a .z) (a .t .now) (a .g) (c .before .before .before .before .before .to3 .given .0 .0) e w b)
+    let w = within-packed (a .z) e (outOf (a .z) (a .t .now) (a .g)) (at-shut (Fit (a .z)) (c .before .before .before .before .before .before .before .before .block .result) (c .before .before .before .before .before .to2 .given .1) f) (p .0 .signed (a .g) (p .1) .1) (c .before .env-within .ensures) (c .before .before .env-of2 .ensures ∙ ap envOf (c .before .before .before .out-of .ensures)) (c .if1 .taken) in
+    let b = function-block (a .z) (a .t .now) (a .g) (c .before .before .before .before .before .before .before .before .before .before .before .start-of .ensures .0) into (c .before .before .before .before .before .before .before .before .block .ensures) (seen-end (c .before .before .before .before .before .before .before .before .block .result) (c .before .before .before .before .before .to2 .given .1)) in
+    ap bare (function-on (a .z) (a .t .now) (a .g) (c .before .before .before .before .before .to2 .given .0 .0) e w b)
 
 returns-2 : tie.Need-returns-2
 returns-2 c =
     let a = c .before .before .before .before .before .before .before .before .before .args in
-    ap bare (function-is (a .z) (a .t .now) (a .g) (function-block (a .z) (a .t .now) (a .g) (c .before .before .before .before .before .before .before .start-of .ensures .0) (c .before .before .before .before .before .env-of .ensures ∙ ap envOf (c .before .before .before .before .before .before .in-of .ensures)) (c .before .before .before .before .block .ensures) (seen (c .before .before .before .before .block .result) (c .before .to .given .1))))
+    ap bare (function-is (a .z) (a .t .now) (a .g) (function-block (a .z) (a .t .now) (a .g) (c .before .before .before .before .before .before .before .start-of .ensures .0) (c .before .before .before .before .before .env-of .ensures ∙ ap envOf (c .before .before .before .before .before .before .in-of .ensures)) (c .before .before .before .before .block .ensures) (seen-end (c .before .before .before .before .block .result) (c .before .to .given .1))))
 
 returns-3 : tie.Need-returns-3
 returns-3 c =
-    let a = c .before .before .before .before .before .before .before .before .before .args in
-    ap bare (function-is (a .z) (a .t .now) (a .g) (function-block (a .z) (a .t .now) (a .g) (c .before .before .before .before .before .before .before .start-of .ensures .0) (c .before .before .before .before .before .env-of .ensures ∙ ap envOf (c .before .before .before .before .before .before .in-of .ensures)) (c .before .before .before .before .block .ensures) (seen (c .before .before .before .before .block .result) (c .before .to2 .given .1))))
-
-returns-4 : tie.Need-returns-4
-returns-4 c =
     let a = c .before .before .before .before .before .before .before .before .before .before .before .before .before .args in
     let p = c .before .before .before .before .before .before .before .before .before .before .before .before .before .pre in
     let e = viewEnv (c .before .before .before .before .before .before .before .before .block .result .env) in
     let into = c .before .before .before .before .before .before .before .before .before .env-of .ensures ∙ ap envOf (c .before .before .before .before .before .before .before .before .before .before .in-of .ensures) in
     let f = walk-fit (a .z) (a .t .now) (p .0) 16 _ _ _ (c .before .before .before .before .before .before .before .before .block .result) (subst (Fit (a .z)) (sym into) (p .0 .signed (a .g) (p .1) .0)) (c .before .before .before .before .before .before .before .before .block .ensures) in
-    let w = within-packed (a .z) e (outOf (a .z) (a .t .now) (a .g)) (at-shut (Fit (a .z)) (c .before .before .before .before .before .before .before .before .block .result) (c .before .before .before .before .before .to3 .given .1) f) (p .0 .signed (a .g) (p .1) .1) (c .before .env-within .ensures) (c .before .before .env-of2 .ensures ∙ ap envOf (c .before .before .before .out-of .ensures)) (c .if1 .left) in
-    let b = function-block (a .z) (a .t .now) (a .g) (c .before .before .before .before .before .before .before .before .before .before .before .start-of .ensures .0) into (c .before .before .before .before .before .before .before .before .block .ensures) (seen (c .before .before .before .before .before .before .before .before .block .result) (c .before .before .before .before .before .to3 .given .1)) in
-    ap bare (function-out (a .z) (a .t .now) (a .g) (c .before .before .before .before .before .to3 .given .0 .0) e w b)
+    let w = within-packed (a .z) e (outOf (a .z) (a .t .now) (a .g)) (at-shut (Fit (a .z)) (c .before .before .before .before .before .before .before .before .block .result) (c .before .before .before .before .before .to2 .given .1) f) (p .0 .signed (a .g) (p .1) .1) (c .before .env-within .ensures) (c .before .before .env-of2 .ensures ∙ ap envOf (c .before .before .before .out-of .ensures)) (c .if1 .left) in
+    let b = function-block (a .z) (a .t .now) (a .g) (c .before .before .before .before .before .before .before .before .before .before .before .start-of .ensures .0) into (c .before .before .before .before .before .before .before .before .block .ensures) (seen-end (c .before .before .before .before .before .before .before .before .block .result) (c .before .before .before .before .before .to2 .given .1)) in
+    ap bare (function-out (a .z) (a .t .now) (a .g) (c .before .before .before .before .before .to2 .given .0 .0) e w b)
 
 pub function-spec : {M : Type 1} → statement M
 function-spec =
@@ -94,11 +86,9 @@ function-spec =
     block-requires
     enum-known-to
     enum-known-to-2
-    enum-known-to-3
     out-of-requires
     env-of-requires-2
     env-within-requires
     returns
     returns-2
-    returns-3
-    returns-4)
+    returns-3)

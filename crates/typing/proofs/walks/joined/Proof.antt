@@ -1,11 +1,11 @@
 use Prim.Native.Nat.{_+_}
 use mathlib.Core.Path.{sym, ap, subst, _∙_}
 use borrow.Author.Needs.{needs}
-use Rattle.model.specs.Walk.{Next as Onward}
+use Rattle.model.specs.Walk.{Onward}
 use Rattle.typing.specs.Walks.{joinWalk, Close}
 use Rattle.typing.specs.Envs.{viewEnv}
 use Rattle.model.specs.Whole.{NoThrees}
-use Rattle.typing.proofs.Turns.{seen, halts, at-shut}
+use Rattle.typing.proofs.Turns.{halts, seen-end, at-shut}
 use Rattle.typing.proofs.walks.joined.Statement.{statement}
 use Rattle.typing.proofs.walks.joined.Tie as tie
 use Rattle.typing.proofs.walks.joined.Reads as reads
@@ -22,36 +22,25 @@ fault-requires c κs = search needs
 enum-known-to-2 : tie.Need-enum-known-to-2
 enum-known-to-2 c = search needs
 
-fault-requires-2 : tie.Need-fault-requires-2
-fault-requires-2 c κs = search needs
-
-enum-known-to-3 : tie.Need-enum-known-to-3
-enum-known-to-3 c = search needs
-
 join-envs-requires : tie.Need-join-envs-requires
 join-envs-requires c κs =
     let p = c .before .before .before .before .pre in
-    (p .1, at-shut NoThrees (c .before .before .before .before .args .second) (c .before .to3 .given .1) (p .2))
+    (p .1, at-shut NoThrees (c .before .before .before .before .args .second) (c .before .to2 .given .1) (p .2))
 
-add-t11 : tie.Need-add-t11
-add-t11 c =
-    let h = subst Close (c .before .before .to3 .given .1) (c .before .before .before .before .before .pre .0) in
+add-t10 : tie.Need-add-t10
+add-t10 c =
+    let h = subst Close (c .before .before .to2 .given .1) (c .before .before .before .before .before .pre .0) in
     search needs
 
 returns : tie.Need-returns
 returns c =
     let a = c .before .before .before .before .before .args in
-    halts (c .fault .result) (c .fault .ensures) ∙ sym (ap (joinWalk (viewEnv (a .env1))) (seen (a .second) (c .before .before .to .given .1)))
+    halts (c .fault .result) (c .fault .ensures) ∙ sym (ap (joinWalk (viewEnv (a .env1))) (seen-end (a .second) (c .before .before .to .given .1)))
 
 returns-2 : tie.Need-returns-2
 returns-2 c =
     let a = c .before .before .before .before .before .args in
-    halts (c .fault2 .result) (c .fault2 .ensures) ∙ sym (ap (joinWalk (viewEnv (a .env1))) (seen (a .second) (c .before .before .to2 .given .1)))
-
-returns-3 : tie.Need-returns-3
-returns-3 c =
-    let a = c .before .before .before .before .before .args in
-    ap (Onward (c .before .before .to3 .given .0 .0 + 1)) (c .join-envs .ensures) ∙ sym (ap (joinWalk (viewEnv (a .env1))) (seen (a .second) (c .before .before .to3 .given .1)))
+    ap (Onward (c .before .before .to2 .given .0 .0 + 1)) (c .join-envs .ensures) ∙ sym (ap (joinWalk (viewEnv (a .env1))) (seen-end (a .second) (c .before .before .to2 .given .1)))
 
 pub joined-spec : {M : Type 1} → statement M
 joined-spec =
@@ -60,10 +49,7 @@ joined-spec =
     enum-known-to
     fault-requires
     enum-known-to-2
-    fault-requires-2
-    enum-known-to-3
     join-envs-requires
-    add-t11
+    add-t10
     returns
-    returns-2
-    returns-3)
+    returns-2)
