@@ -10,24 +10,9 @@ use Rattle.typing.proofs.check.Lts as lts
 use Rattle.reading.proofs.read.Reads as read-reads
 use Rattle.typing.proofs.walks.functions.Reads as functions-reads
 
-read-requires : tie.Need-read-requires
-read-requires c κs = search needs
-
-enum-known-a : tie.Need-enum-known-a
-enum-known-a c = search needs
-
-enum-known-a-2 : tie.Need-enum-known-a-2
-enum-known-a-2 c = search needs
-
 functions-requires : tie.Need-functions-requires
 functions-requires c κs =
     (ready _ _ (sym (c .before .before .before .read .ensures) ∙ c .before .a2 .given .1), omega arith)
-
-enum-told : tie.Need-enum-told
-enum-told c = search needs
-
-enum-known-w : tie.Need-enum-known-w
-enum-known-w c = search needs
 
 returns : tie.Need-returns
 unfolding checkAt
@@ -53,12 +38,12 @@ pub check-spec : {M : Type 1} → statement M
 check-spec =
     tie.close
     (tie.spec
-    read-requires
-    enum-known-a
-    enum-known-a-2
+    (λ c κs. search needs)
+    (λ c. search needs)
+    (λ c. search needs)
     functions-requires
-    enum-told
-    enum-known-w
+    (λ c. search needs)
+    (λ c. search needs)
     returns
     returns-2
     returns-3)

@@ -5,21 +5,6 @@ use Rattle.typing.proofs.environments.covers_status.Reads as reads
 use Rattle.typing.proofs.environments.covers_status.Lts as lts
 use Rattle.typing.proofs.environments.same_status.Reads as same-status-reads
 
-enum-told : tie.Need-enum-told
-enum-told c = search needs
-
-enum-told-2 : tie.Need-enum-told-2
-enum-told-2 c = search needs
-
-same-status-requires : tie.Need-same-status-requires
-same-status-requires c κs = search needs
-
-enum-told-3 : tie.Need-enum-told-3
-enum-told-3 c = search needs
-
-same-status-requires-2 : tie.Need-same-status-requires-2
-same-status-requires-2 c κs = search needs
-
 returns : tie.Need-returns
 returns c = search needs
 
@@ -33,11 +18,11 @@ pub covers-status-spec : {M : Type 1} → statement M
 covers-status-spec =
     tie.close
     (tie.spec
-    enum-told
-    enum-told-2
-    same-status-requires
-    enum-told-3
-    same-status-requires-2
+    (λ c. search needs)
+    (λ c. search needs)
+    (λ c κs. search needs)
+    (λ c. search needs)
+    (λ c κs. search needs)
     returns
     returns-2
     returns-3)

@@ -7,14 +7,8 @@ use Rattle.typing.proofs.environments.env_of.Lts as lts
 use Rattle.typing.proofs.environments.env_from.Reads as env-from-reads
 use Rattle.typing.proofs.environments.status_of.Reads as status-of-reads
 
-status-of-requires : tie.Need-status-of-requires
-status-of-requires c κs = search needs
-
-env-from-requires : tie.Need-env-from-requires
-env-from-requires c κs = search needs
-
 returns : tie.Need-returns
 returns c = c .env-from .ensures ∙ rw (c .before .status-of .ensures) refl
 
 pub env-of-spec : {M : Type 1} → statement M
-env-of-spec = tie.close (tie.spec status-of-requires env-from-requires returns)
+env-of-spec = tie.close (tie.spec (λ c κs. search needs) (λ c κs. search needs) returns)

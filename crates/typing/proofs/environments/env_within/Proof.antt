@@ -12,15 +12,9 @@ use Rattle.typing.proofs.environments.env_within.Lts as lts
 use Rattle.levels.proofs.levels_within.Reads as levels-within-reads
 use Rattle.typing.proofs.environments.covers_status.Reads as covers-status-reads
 
-covers-status-requires : tie.Need-covers-status-requires
-covers-status-requires c κs = search needs
-
 returns : tie.Need-returns
 unfolding within
 returns c = λ n m w v. simp (sym (c .before .covers-status .ensures), not-true (c .before .covers-status .result) (c .if1 .taken))
-
-levels-within-requires : tie.Need-levels-within-requires
-levels-within-requires c κs = search needs
 
 returns-2 : tie.Need-returns-2
 unfolding within
@@ -28,9 +22,6 @@ returns-2 c = λ n m w v.
     let a = c .before .before .before .before .args in
     let regs = within-slots n (a .e .registers) (a .f .registers) (omega arith) (omega arith) (w .regs) (v .regs) (c .before .levels-within .ensures) in
     simp (sym (c .before .before .before .covers-status .ensures), not-false (c .before .before .before .covers-status .result) (c .before .before .if1 .left), regs, not-true (c .before .levels-within .result) (c .if2 .taken))
-
-levels-within-requires-2 : tie.Need-levels-within-requires-2
-levels-within-requires-2 c κs = search needs
 
 returns-3 : tie.Need-returns-3
 unfolding within
@@ -44,9 +35,9 @@ pub env-within-spec : {M : Type 1} → statement M
 env-within-spec =
     tie.close
     (tie.spec
-    covers-status-requires
+    (λ c κs. search needs)
     returns
-    levels-within-requires
+    (λ c κs. search needs)
     returns-2
-    levels-within-requires-2
+    (λ c κs. search needs)
     returns-3)

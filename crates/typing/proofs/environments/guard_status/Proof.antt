@@ -5,15 +5,6 @@ use Rattle.typing.proofs.environments.guard_status.Tie as tie
 use Rattle.typing.proofs.environments.guard_status.Reads as reads
 use Rattle.typing.proofs.environments.guard_status.Lts as lts
 
-enum-told : tie.Need-enum-told
-enum-told c = search needs
-
-enum-told-2 : tie.Need-enum-told-2
-enum-told-2 c = search needs
-
-enum-told-3 : tie.Need-enum-told-3
-enum-told-3 c = search needs
-
 returns : tie.Need-returns
 unfolding guardStatus
 returns c = simp (c .enum-told .given .1)
@@ -28,4 +19,4 @@ returns-3 c = simp (c .enum-told3 .given .1)
 
 pub guard-status-spec : {M : Type 1} → statement M
 guard-status-spec =
-    tie.close (tie.spec enum-told enum-told-2 enum-told-3 returns returns-2 returns-3)
+    tie.close (tie.spec (λ c. search needs) (λ c. search needs) (λ c. search needs) returns returns-2 returns-3)

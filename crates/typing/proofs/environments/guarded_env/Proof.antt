@@ -7,14 +7,8 @@ use Rattle.typing.proofs.environments.guarded_env.Lts as lts
 use Rattle.typing.proofs.environments.env_from.Reads as env-from-reads
 use Rattle.typing.proofs.environments.guard_status.Reads as guard-status-reads
 
-guard-status-requires : tie.Need-guard-status-requires
-guard-status-requires c κs = search needs
-
-env-from-requires : tie.Need-env-from-requires
-env-from-requires c κs = search needs
-
 returns : tie.Need-returns
 returns c = c .env-from .ensures ∙ rw (c .before .guard-status .ensures) refl
 
 pub guarded-env-spec : {M : Type 1} → statement M
-guarded-env-spec = tie.close (tie.spec guard-status-requires env-from-requires returns)
+guarded-env-spec = tie.close (tie.spec (λ c κs. search needs) (λ c κs. search needs) returns)

@@ -10,18 +10,6 @@ use Rattle.levels.proofs.join_levels.Reads as join-levels-reads
 use Rattle.typing.proofs.environments.env_from.Reads as env-from-reads
 use Rattle.typing.proofs.environments.join_status.Reads as join-status-reads
 
-join-status-requires : tie.Need-join-status-requires
-join-status-requires c κs = search needs
-
-join-levels-requires : tie.Need-join-levels-requires
-join-levels-requires c κs = search needs
-
-join-levels-requires-2 : tie.Need-join-levels-requires-2
-join-levels-requires-2 c κs = search needs
-
-env-from-requires : tie.Need-env-from-requires
-env-from-requires c κs = search needs
-
 returns : tie.Need-returns
 returns c =
     let a = c .before .before .before .before .args in
@@ -32,4 +20,4 @@ returns c =
 
 pub join-envs-spec : {M : Type 1} → statement M
 join-envs-spec =
-    tie.close (tie.spec join-status-requires join-levels-requires join-levels-requires-2 env-from-requires returns)
+    tie.close (tie.spec (λ c κs. search needs) (λ c κs. search needs) (λ c κs. search needs) (λ c κs. search needs) returns)

@@ -7,9 +7,6 @@ use Rattle.typing.proofs.environments.join_status.Reads as reads
 use Rattle.typing.proofs.environments.join_status.Lts as lts
 use Rattle.typing.proofs.environments.same_status.Reads as same-status-reads
 
-same-status-requires : tie.Need-same-status-requires
-same-status-requires c κs = search needs
-
 returns : tie.Need-returns
 returns c = simp (join-is, sym (c .before .same-status .ensures), c .if1 .taken)
 
@@ -17,4 +14,4 @@ returns-2 : tie.Need-returns-2
 returns-2 c = simp (join-is, sym (c .before .same-status .ensures), c .if1 .left)
 
 pub join-status-spec : {M : Type 1} → statement M
-join-status-spec = tie.close (tie.spec same-status-requires returns returns-2)
+join-status-spec = tie.close (tie.spec (λ c κs. search needs) returns returns-2)

@@ -6,15 +6,6 @@ use Rattle.typing.proofs.environments.killed.Tie as tie
 use Rattle.typing.proofs.environments.killed.Reads as reads
 use Rattle.typing.proofs.environments.killed.Lts as lts
 
-enum-told : tie.Need-enum-told
-enum-told c = search needs
-
-enum-told-2 : tie.Need-enum-told-2
-enum-told-2 c = search needs
-
-enum-known-a : tie.Need-enum-known-a
-enum-known-a c = search needs
-
 returns : tie.Need-returns
 unfolding kill
 returns c =
@@ -37,4 +28,4 @@ returns-4 c =
 
 pub killed-spec : {M : Type 1} → statement M
 killed-spec =
-    tie.close (tie.spec enum-told enum-told-2 enum-known-a returns returns-2 returns-3 returns-4)
+    tie.close (tie.spec (λ c. search needs) (λ c. search needs) (λ c. search needs) returns returns-2 returns-3 returns-4)

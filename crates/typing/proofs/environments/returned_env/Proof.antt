@@ -7,14 +7,8 @@ use Rattle.typing.proofs.environments.returned_env.Lts as lts
 use Rattle.typing.proofs.environments.call_status.Reads as call-status-reads
 use Rattle.typing.proofs.environments.env_from.Reads as env-from-reads
 
-call-status-requires : tie.Need-call-status-requires
-call-status-requires c κs = search needs
-
-env-from-requires : tie.Need-env-from-requires
-env-from-requires c κs = search needs
-
 returns : tie.Need-returns
 returns c = c .env-from .ensures ∙ rw (c .before .call-status .ensures) refl
 
 pub returned-env-spec : {M : Type 1} → statement M
-returned-env-spec = tie.close (tie.spec call-status-requires env-from-requires returns)
+returned-env-spec = tie.close (tie.spec (λ c κs. search needs) (λ c κs. search needs) returns)

@@ -10,15 +10,6 @@ use Rattle.typing.proofs.rules.after_init.Lts as lts
 use Rattle.levels.proofs.settle_levels.Reads as settle-levels-reads
 use Rattle.typing.proofs.environments.env_from.Reads as env-from-reads
 
-settle-levels-requires : tie.Need-settle-levels-requires
-settle-levels-requires c κs = search needs
-
-settle-levels-requires-2 : tie.Need-settle-levels-requires-2
-settle-levels-requires-2 c κs = search needs
-
-env-from-requires : tie.Need-env-from-requires
-env-from-requires c κs = search needs
-
 returns : tie.Need-returns
 returns c =
     let b = c .before .before .before in
@@ -27,4 +18,4 @@ returns c =
     c .env-from .ensures ∙ (λ i. record { status = Updated; regs = regs i; arrays = arrays i })
 
 pub after-init-spec : {M : Type 1} → statement M
-after-init-spec = tie.close (tie.spec settle-levels-requires settle-levels-requires-2 env-from-requires returns)
+after-init-spec = tie.close (tie.spec (λ c κs. search needs) (λ c κs. search needs) (λ c κs. search needs) returns)

@@ -9,12 +9,6 @@ use Rattle.levels.proofs.larger.Reads as larger-reads
 use Rattle.levels.proofs.level.Reads as level-reads
 use Rattle.typing.proofs.rules.written_env.Reads as written-env-reads
 
-level-requires : tie.Need-level-requires
-level-requires c κs = search needs
-
-larger-requires : tie.Need-larger-requires
-larger-requires c κs = search needs
-
 written-env-requires : tie.Need-written-env-requires
 written-env-requires c κs =
     let a = c .before .before .args in
@@ -24,4 +18,4 @@ returns : tie.Need-returns
 returns c = simp (c .before .larger .ensures, c .before .before .level .ensures) at (c .written-env .ensures)
 
 pub after-load-spec : {M : Type 1} → statement M
-after-load-spec = tie.close (tie.spec level-requires larger-requires written-env-requires returns)
+after-load-spec = tie.close (tie.spec (λ c κs. search needs) (λ c κs. search needs) written-env-requires returns)

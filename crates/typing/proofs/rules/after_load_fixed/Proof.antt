@@ -8,9 +8,6 @@ use Rattle.typing.proofs.rules.after_load_fixed.Lts as lts
 use Rattle.levels.proofs.level.Reads as level-reads
 use Rattle.typing.proofs.rules.written_env.Reads as written-env-reads
 
-level-requires : tie.Need-level-requires
-level-requires c κs = search needs
-
 written-env-requires : tie.Need-written-env-requires
 written-env-requires c κs =
     let a = c .before .args in
@@ -20,4 +17,4 @@ returns : tie.Need-returns
 returns c = simp (c .before .level .ensures) at (c .written-env .ensures)
 
 pub after-load-fixed-spec : {M : Type 1} → statement M
-after-load-fixed-spec = tie.close (tie.spec level-requires written-env-requires returns)
+after-load-fixed-spec = tie.close (tie.spec (λ c κs. search needs) written-env-requires returns)

@@ -9,15 +9,6 @@ use Rattle.levels.proofs.larger.Reads as larger-reads
 use Rattle.levels.proofs.level.Reads as level-reads
 use Rattle.typing.proofs.rules.written_env.Reads as written-env-reads
 
-level-requires : tie.Need-level-requires
-level-requires c κs = search needs
-
-level-requires-2 : tie.Need-level-requires-2
-level-requires-2 c κs = search needs
-
-larger-requires : tie.Need-larger-requires
-larger-requires c κs = search needs
-
 written-env-requires : tie.Need-written-env-requires
 written-env-requires c κs =
     let a = c .before .before .before .args in
@@ -29,4 +20,4 @@ returns c = simp (c .before .larger .ensures, c .before .before .level2 .ensures
 pub after-op-spec : {M : Type 1} → statement M
 after-op-spec =
     tie.close
-    (tie.spec level-requires level-requires-2 larger-requires written-env-requires returns)
+    (tie.spec (λ c κs. search needs) (λ c κs. search needs) (λ c κs. search needs) written-env-requires returns)

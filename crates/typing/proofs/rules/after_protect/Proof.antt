@@ -13,18 +13,6 @@ use Rattle.levels.proofs.settled.Reads as settled-reads
 use Rattle.levels.proofs.with_level.Reads as with-level-reads
 use Rattle.typing.proofs.environments.env_from.Reads as env-from-reads
 
-level-requires : tie.Need-level-requires
-level-requires c κs = search needs
-
-settled-requires : tie.Need-settled-requires
-settled-requires c κs = search needs
-
-with-level-requires : tie.Need-with-level-requires
-with-level-requires c κs = search needs
-
-env-from-requires : tie.Need-env-from-requires
-env-from-requires c κs = search needs
-
 returns : tie.Need-returns
 returns c =
     let a = c .before .before .before .before .args in
@@ -35,4 +23,4 @@ returns c =
 
 pub after-protect-spec : {M : Type 1} → statement M
 after-protect-spec =
-    tie.close (tie.spec level-requires settled-requires with-level-requires env-from-requires returns)
+    tie.close (tie.spec (λ c κs. search needs) (λ c κs. search needs) (λ c κs. search needs) (λ c κs. search needs) returns)

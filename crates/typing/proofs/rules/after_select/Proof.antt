@@ -9,21 +9,6 @@ use Rattle.levels.proofs.larger.Reads as larger-reads
 use Rattle.levels.proofs.level.Reads as level-reads
 use Rattle.typing.proofs.rules.written_env.Reads as written-env-reads
 
-level-requires : tie.Need-level-requires
-level-requires c κs = search needs
-
-level-requires-2 : tie.Need-level-requires-2
-level-requires-2 c κs = search needs
-
-level-requires-3 : tie.Need-level-requires-3
-level-requires-3 c κs = search needs
-
-larger-requires : tie.Need-larger-requires
-larger-requires c κs = search needs
-
-larger-requires-2 : tie.Need-larger-requires-2
-larger-requires-2 c κs = search needs
-
 written-env-requires : tie.Need-written-env-requires
 written-env-requires c κs =
     let a = c .before .before .before .before .before .args in
@@ -36,10 +21,10 @@ pub after-select-spec : {M : Type 1} → statement M
 after-select-spec =
     tie.close
     (tie.spec
-    level-requires
-    level-requires-2
-    level-requires-3
-    larger-requires
-    larger-requires-2
+    (λ c κs. search needs)
+    (λ c κs. search needs)
+    (λ c κs. search needs)
+    (λ c κs. search needs)
+    (λ c κs. search needs)
     written-env-requires
     returns)

@@ -18,17 +18,11 @@ use Rattle.typing.proofs.rules.after_store_fixed.Reads as after-store-f
 use Rattle.typing.proofs.rules.after_update.Reads as after-update-reads
 use Rattle.typing.proofs.rules.written_env.Reads as written-env-reads
 
-enum-known-s : tie.Need-enum-known-s
-enum-known-s c = search needs
-
 written-env-requires : tie.Need-written-env-requires
 written-env-requires c κs =
     let small = c .before .before .before .pre .0 in
     let f = subst (SimpleFits (c .before .before .before .args .z .registers) (c .before .before .before .args .z .arrays)) (c .before .s .given .1) (c .before .before .before .pre .1) in
     (omega (arith, f, small .registers), omega arith)
-
-enum-known-s-2 : tie.Need-enum-known-s-2
-enum-known-s-2 c = search needs
 
 after-op-requires : tie.Need-after-op-requires
 after-op-requires c κs =
@@ -36,17 +30,11 @@ after-op-requires c κs =
     let f = subst (SimpleFits (c .before .before .before .args .z .registers) (c .before .before .before .args .z .arrays)) (c .before .s2 .given .1) (c .before .before .before .pre .1) in
     omega (arith, f .0, small .registers)
 
-enum-known-s-3 : tie.Need-enum-known-s-3
-enum-known-s-3 c = search needs
-
 after-select-requires : tie.Need-after-select-requires
 after-select-requires c κs =
     let small = c .before .before .before .pre .0 in
     let f = subst (SimpleFits (c .before .before .before .args .z .registers) (c .before .before .before .args .z .arrays)) (c .before .s3 .given .1) (c .before .before .before .pre .1) in
     omega (arith, f .0, small .registers)
-
-enum-known-s-4 : tie.Need-enum-known-s-4
-enum-known-s-4 c = search needs
 
 after-load-requires : tie.Need-after-load-requires
 after-load-requires c κs =
@@ -54,29 +42,11 @@ after-load-requires c κs =
     let f = subst (SimpleFits (c .before .before .before .args .z .registers) (c .before .before .before .args .z .arrays)) (c .before .s4 .given .1) (c .before .before .before .pre .1) in
     omega (arith, f .0, small .registers)
 
-enum-known-s-5 : tie.Need-enum-known-s-5
-enum-known-s-5 c = search needs
-
 after-store-requires : tie.Need-after-store-requires
 after-store-requires c κs =
     let small = c .before .before .before .pre .0 in
     let f = subst (SimpleFits (c .before .before .before .args .z .registers) (c .before .before .before .args .z .arrays)) (c .before .s5 .given .1) (c .before .before .before .pre .1) in
     (small, omega (arith, f .0, small .arrays), c .before .before .before .pre .2)
-
-enum-told : tie.Need-enum-told
-enum-told c = search needs
-
-after-init-requires : tie.Need-after-init-requires
-after-init-requires c κs = search needs
-
-enum-told-2 : tie.Need-enum-told-2
-enum-told-2 c = search needs
-
-after-update-requires : tie.Need-after-update-requires
-after-update-requires c κs = search needs
-
-enum-known-s-6 : tie.Need-enum-known-s-6
-enum-known-s-6 c = search needs
 
 after-protect-requires : tie.Need-after-protect-requires
 after-protect-requires c κs =
@@ -84,17 +54,11 @@ after-protect-requires c κs =
     let f = subst (SimpleFits (c .before .before .before .args .z .registers) (c .before .before .before .args .z .arrays)) (c .before .s6 .given .1) (c .before .before .before .pre .1) in
     omega (arith, f .0, small .registers)
 
-enum-known-s-7 : tie.Need-enum-known-s-7
-enum-known-s-7 c = search needs
-
 after-load-fixed-requires : tie.Need-after-load-fixed-requires
 after-load-fixed-requires c κs =
     let small = c .before .before .before .pre .0 in
     let f = subst (SimpleFits (c .before .before .before .args .z .registers) (c .before .before .before .args .z .arrays)) (c .before .s7 .given .1) (c .before .before .before .pre .1) in
     omega (arith, f .0, small .registers)
-
-enum-known-s-8 : tie.Need-enum-known-s-8
-enum-known-s-8 c = search needs
 
 after-store-fixed-requires : tie.Need-after-store-fixed-requires
 after-store-fixed-requires c κs =
@@ -136,25 +100,25 @@ pub after-simple-spec : {M : Type 1} → statement M
 after-simple-spec =
     tie.close
     (tie.spec
-    enum-known-s
+    (λ c. search needs)
     written-env-requires
-    enum-known-s-2
+    (λ c. search needs)
     after-op-requires
-    enum-known-s-3
+    (λ c. search needs)
     after-select-requires
-    enum-known-s-4
+    (λ c. search needs)
     after-load-requires
-    enum-known-s-5
+    (λ c. search needs)
     after-store-requires
-    enum-told
-    after-init-requires
-    enum-told-2
-    after-update-requires
-    enum-known-s-6
+    (λ c. search needs)
+    (λ c κs. search needs)
+    (λ c. search needs)
+    (λ c κs. search needs)
+    (λ c. search needs)
     after-protect-requires
-    enum-known-s-7
+    (λ c. search needs)
     after-load-fixed-requires
-    enum-known-s-8
+    (λ c. search needs)
     after-store-fixed-requires
     returns
     returns-2

@@ -7,18 +7,9 @@ use Rattle.levels.proofs.level.Reads as level-reads
 use Rattle.typing.proofs.rules.beside_levels.Reads as beside-levels-reads
 use Rattle.typing.proofs.rules.raised_env.Reads as raised-env-reads
 
-level-requires : tie.Need-level-requires
-level-requires c κs = search needs
-
-beside-levels-requires : tie.Need-beside-levels-requires
-beside-levels-requires c κs = search needs
-
-raised-env-requires : tie.Need-raised-env-requires
-raised-env-requires c κs = search needs
-
 returns : tie.Need-returns
 returns c = simp (c .before .beside-levels .ensures, c .before .before .level .ensures) at (c .raised-env .ensures)
 
 pub after-store-spec : {M : Type 1} → statement M
 after-store-spec =
-    tie.close (tie.spec level-requires beside-levels-requires raised-env-requires returns)
+    tie.close (tie.spec (λ c κs. search needs) (λ c κs. search needs) (λ c κs. search needs) returns)

@@ -13,12 +13,6 @@ use Rattle.levels.proofs.transients.Reads as transients-reads
 returns : tie.Need-returns
 returns c = beside-public (c .before .args .arrays) (c .before .args .count) (c .before .args .l) (c .if1 .taken)
 
-transients-requires : tie.Need-transients-requires
-transients-requires c κs = search needs
-
-join-levels-requires : tie.Need-join-levels-requires
-join-levels-requires c κs = search needs
-
 returns-2 : tie.Need-returns-2
 returns-2 c =
     let a = c .before .before .before .args in
@@ -27,4 +21,4 @@ returns-2 c =
 
 pub beside-levels-spec : {M : Type 1} → statement M
 beside-levels-spec =
-    tie.close (tie.spec returns transients-requires join-levels-requires returns-2)
+    tie.close (tie.spec returns (λ c κs. search needs) (λ c κs. search needs) returns-2)

@@ -8,48 +8,6 @@ use Rattle.typing.proofs.rules.fault_of.Lts as lts
 use Rattle.typing.proofs.rules.index_fault.Reads as index-fault-reads
 use Rattle.typing.proofs.rules.status_fault.Reads as status-fault-reads
 
-enum-told : tie.Need-enum-told
-enum-told c = search needs
-
-enum-told-2 : tie.Need-enum-told-2
-enum-told-2 c = search needs
-
-enum-told-3 : tie.Need-enum-told-3
-enum-told-3 c = search needs
-
-enum-known-s : tie.Need-enum-known-s
-enum-known-s c = search needs
-
-index-fault-requires : tie.Need-index-fault-requires
-index-fault-requires c κs = search needs
-
-enum-known-s-2 : tie.Need-enum-known-s-2
-enum-known-s-2 c = search needs
-
-index-fault-requires-2 : tie.Need-index-fault-requires-2
-index-fault-requires-2 c κs = search needs
-
-enum-told-4 : tie.Need-enum-told-4
-enum-told-4 c = search needs
-
-enum-known-s-3 : tie.Need-enum-known-s-3
-enum-known-s-3 c = search needs
-
-status-fault-requires : tie.Need-status-fault-requires
-status-fault-requires c κs = search needs
-
-enum-told-5 : tie.Need-enum-told-5
-enum-told-5 c = search needs
-
-status-fault-requires-2 : tie.Need-status-fault-requires-2
-status-fault-requires-2 c κs = search needs
-
-enum-told-6 : tie.Need-enum-told-6
-enum-told-6 c = search needs
-
-enum-told-7 : tie.Need-enum-told-7
-enum-told-7 c = search needs
-
 returns : tie.Need-returns
 returns c = search needs
 
@@ -84,20 +42,20 @@ pub fault-of-spec : {M : Type 1} → statement M
 fault-of-spec =
     tie.close
     (tie.spec
-    enum-told
-    enum-told-2
-    enum-told-3
-    enum-known-s
-    index-fault-requires
-    enum-known-s-2
-    index-fault-requires-2
-    enum-told-4
-    enum-known-s-3
-    status-fault-requires
-    enum-told-5
-    status-fault-requires-2
-    enum-told-6
-    enum-told-7
+    (λ c. search needs)
+    (λ c. search needs)
+    (λ c. search needs)
+    (λ c. search needs)
+    (λ c κs. search needs)
+    (λ c. search needs)
+    (λ c κs. search needs)
+    (λ c. search needs)
+    (λ c. search needs)
+    (λ c κs. search needs)
+    (λ c. search needs)
+    (λ c κs. search needs)
+    (λ c. search needs)
+    (λ c. search needs)
     returns
     returns-2
     returns-3

@@ -6,9 +6,6 @@ use Rattle.typing.proofs.rules.index_fault.Reads as reads
 use Rattle.typing.proofs.rules.index_fault.Lts as lts
 use Rattle.typing.proofs.rules.is_public.Reads as is-public-reads
 
-is-public-requires : tie.Need-is-public-requires
-is-public-requires c κs = search needs
-
 returns : tie.Need-returns
 returns c = simp (sym (c .before .is-public .ensures), c .if1 .taken)
 
@@ -16,4 +13,4 @@ returns-2 : tie.Need-returns-2
 returns-2 c = simp (sym (c .before .is-public .ensures), c .if1 .left)
 
 pub index-fault-spec : {M : Type 1} → statement M
-index-fault-spec = tie.close (tie.spec is-public-requires returns returns-2)
+index-fault-spec = tie.close (tie.spec (λ c κs. search needs) returns returns-2)

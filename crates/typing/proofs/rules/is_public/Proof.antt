@@ -5,11 +5,8 @@ use Rattle.typing.proofs.rules.is_public.Reads as reads
 use Rattle.typing.proofs.rules.is_public.Lts as lts
 use Rattle.levels.proofs.level.Reads as level-reads
 
-level-requires : tie.Need-level-requires
-level-requires c κs = search needs
-
 returns : tie.Need-returns
 returns c = simp (c .level .ensures)
 
 pub is-public-spec : {M : Type 1} → statement M
-is-public-spec = tie.close (tie.spec level-requires returns)
+is-public-spec = tie.close (tie.spec (λ c κs. search needs) returns)

@@ -14,21 +14,6 @@ use Rattle.levels.proofs.level.Reads as level-reads
 use Rattle.levels.proofs.with_level.Reads as with-level-reads
 use Rattle.typing.proofs.environments.env_from.Reads as env-from-reads
 
-level-requires : tie.Need-level-requires
-level-requires c κs = search needs
-
-level-requires-2 : tie.Need-level-requires-2
-level-requires-2 c κs = search needs
-
-larger-requires : tie.Need-larger-requires
-larger-requires c κs = search needs
-
-with-level-requires : tie.Need-with-level-requires
-with-level-requires c κs = search needs
-
-env-from-requires : tie.Need-env-from-requires
-env-from-requires c κs = search needs
-
 returns : tie.Need-returns
 returns c =
     let a = c .before .before .before .before .before .args in
@@ -40,4 +25,4 @@ returns c =
 pub raised-env-spec : {M : Type 1} → statement M
 raised-env-spec =
     tie.close
-    (tie.spec level-requires level-requires-2 larger-requires with-level-requires env-from-requires returns)
+    (tie.spec (λ c κs. search needs) (λ c κs. search needs) (λ c κs. search needs) (λ c κs. search needs) (λ c κs. search needs) returns)

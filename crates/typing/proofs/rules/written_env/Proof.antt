@@ -10,15 +10,6 @@ use Rattle.levels.proofs.with_level.Reads as with-level-reads
 use Rattle.typing.proofs.environments.env_from.Reads as env-from-reads
 use Rattle.typing.proofs.environments.killed.Reads as killed-reads
 
-with-level-requires : tie.Need-with-level-requires
-with-level-requires c κs = search needs
-
-killed-requires : tie.Need-killed-requires
-killed-requires c κs = search needs
-
-env-from-requires : tie.Need-env-from-requires
-env-from-requires c κs = search needs
-
 returns : tie.Need-returns
 returns c =
     let a = c .before .before .before .args in
@@ -27,4 +18,4 @@ returns c =
     c .env-from .ensures ∙ (λ i. record { status = c .before .killed .ensures i; regs = regs i; arrays = slot (a .e .arrays) })
 
 pub written-env-spec : {M : Type 1} → statement M
-written-env-spec = tie.close (tie.spec with-level-requires killed-requires env-from-requires returns)
+written-env-spec = tie.close (tie.spec (λ c κs. search needs) (λ c κs. search needs) (λ c κs. search needs) returns)

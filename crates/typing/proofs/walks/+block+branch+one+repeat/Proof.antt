@@ -82,39 +82,36 @@ repeat-at t = and 1 repeat-kinds.ps (is 1 repeat-kinds.ps μ-repeat t) repeat.Pr
 abbrev repeat-below : ℕ → In 1 repeat-kinds.ps
 repeat-below t = and 1 repeat-kinds.ps (falls 1 repeat-kinds.ps _<_ μ-repeat t) repeat.Pre
 
+abbrev repeat-claims : ℕ → repeat-lts.Claims
+repeat-claims t = (env-of-reads.Asked, env-of-reads.Learnt, env-within-reads.Asked, env-within-reads.Learnt, fault-reads.Asked, fault-reads.Learnt, is-public-reads.Asked, is-public-reads.Learnt, guarded-env-reads.Asked, guarded-env-reads.Learnt, block-below t, block.Post, back-reads.Asked, back-reads.Learnt)
+
+abbrev one-claims : ℕ → one-lts.Claims
+one-claims t = (decode-reads.Asked, decode-reads.Learnt, shut-reads.Asked, shut-reads.Learnt, simple-reads.Asked, simple-reads.Learnt, call-reads.Asked, call-reads.Learnt, branch-below t, branch.Post, repeat-below t, repeat.Post)
+
+abbrev branch-claims : ℕ → branch-lts.Claims
+branch-claims t = (is-public-reads.Asked, is-public-reads.Learnt, fault-reads.Asked, fault-reads.Learnt, guarded-env-reads.Asked, guarded-env-reads.Learnt, block-below t, block.Post, joined-reads.Asked, joined-reads.Learnt)
+
+abbrev block-claims : ℕ → block-lts.Claims
+block-claims t = (one-below t, one.Post)
+
 abbrev block-Inv-loop : block-lts.InvT-loop
 block-Inv-loop t z from depth at₀ e₀ at e = (k : ℕ) × (length t - at < k) × (at ≤ 100000) × Fit z (viewEnv e) × (blockWalk z t depth (size z t) at₀ (viewEnv e₀) ≡ blockWalk z t depth k at (viewEnv e))
 
 abbrev block-μ-loop : block-lts.MeasureT-loop
 block-μ-loop t z from depth at₀ e₀ at e = length t - at
 
-block-loop-holds : (t : ℕ) → block-lts.Need-loop-holds (
-  one-below t,
-  one.Post,
-) (block-at t) block.Post block-Inv-loop block-μ-loop
+block-loop-holds : (t : ℕ) → block-lts.Need-loop-holds (block-claims t) (block-at t) block.Post block-Inv-loop block-μ-loop
 block-loop-holds t c =
     let a = c .before .args in
     (suc (length (a .t .now)), omega arith, c .before .pre .1 .0 .near, c .before .pre .1 .1, refl)
 
-block-one-requires : (t : ℕ) → block-lts.Need-one-requires (
-  one-below t,
-  one.Post,
-) (block-at t) block.Post block-Inv-loop block-μ-loop
+block-one-requires : (t : ℕ) → block-lts.Need-one-requires (block-claims t) (block-at t) block.Post block-Inv-loop block-μ-loop
 block-one-requires t c κs =
     let p = c .before .before .pre .1 .0 in
     let m = c .before .before .pre .0 in
     (omega arith, (moved p (c .loop .inv .2) (p .shallow), c .loop .inv .3))
 
-block-enum-known-to : (t : ℕ) → block-lts.Need-enum-known-to (
-  one-below t,
-  one.Post,
-) (block-at t) block.Post block-Inv-loop block-μ-loop
-block-enum-known-to t c = search needs
-
-block-loop-less : (t : ℕ) → block-lts.Need-loop-less (
-  one-below t,
-  one.Post,
-) (block-at t) block.Post block-Inv-loop block-μ-loop
+block-loop-less : (t : ℕ) → block-lts.Need-loop-less (block-claims t) (block-at t) block.Post block-Inv-loop block-μ-loop
 block-loop-less t c =
     let a = c .before .before .before .before .before .before .before .args in
     let L = c .before .before .before .before .before .loop in
@@ -122,10 +119,7 @@ block-loop-less t c =
     let o = next-ok (a .z) (a .t .now) (a .depth) (L .at) (viewEnv (L .e)) e in
     omega (arith, o .0, o .1)
 
-block-loop-again : (t : ℕ) → block-lts.Need-loop-again (
-  one-below t,
-  one.Post,
-) (block-at t) block.Post block-Inv-loop block-μ-loop
+block-loop-again : (t : ℕ) → block-lts.Need-loop-again (block-claims t) (block-at t) block.Post block-Inv-loop block-μ-loop
 block-loop-again t c =
     let a = c .before .before .before .before .before .before .before .args in
     let L = c .before .before .before .before .before .loop in
@@ -135,170 +129,38 @@ block-loop-again t c =
     let n = turn-next (a .z) (a .t .now) (a .depth) (L .inv .0) (L .at) (viewEnv (L .e)) e (L .inv .1) in
     (n .0, n .1, omega (arith, o .2, p .short, p .shallow), next-fit (a .z) (a .t .now) p (a .depth) (L .at) (viewEnv (L .e)) (L .inv .3) e, L .inv .4 ∙ n .2)
 
-block-enum-known-to-2 : (t : ℕ) → block-lts.Need-enum-known-to-2 (
-  one-below t,
-  one.Post,
-) (block-at t) block.Post block-Inv-loop block-μ-loop
-block-enum-known-to-2 t c = search needs
-
-block-returns : (t : ℕ) → block-lts.Need-returns (
-  one-below t,
-  one.Post,
-) (block-at t) block.Post block-Inv-loop block-μ-loop
+block-returns : (t : ℕ) → block-lts.Need-returns (block-claims t) (block-at t) block.Post block-Inv-loop block-μ-loop
 block-returns t c =
     let a = c .before .before .before .before .before .before .before .args in
     let L = c .before .before .before .before .before .loop in
     let e = arrived (c .before .before .before .before .one .result) (c .before .before .before .before .one .ensures) (c .before .to2 .given .1) in
     sym (L .inv .4 ∙ turn-shut (a .z) (a .t .now) (a .depth) (L .inv .0) (L .at) (viewEnv (L .e)) e (L .inv .1))
 
-block-enum-known-to-3 : (t : ℕ) → block-lts.Need-enum-known-to-3 (
-  one-below t,
-  one.Post,
-) (block-at t) block.Post block-Inv-loop block-μ-loop
-block-enum-known-to-3 t c = search needs
-
-block-returns-2 : (t : ℕ) → block-lts.Need-returns-2 (
-  one-below t,
-  one.Post,
-) (block-at t) block.Post block-Inv-loop block-μ-loop
+block-returns-2 : (t : ℕ) → block-lts.Need-returns-2 (block-claims t) (block-at t) block.Post block-Inv-loop block-μ-loop
 block-returns-2 t c =
     let a = c .before .before .before .before .before .before .before .args in
     let L = c .before .before .before .before .before .loop in
     let e = arrived (c .before .before .before .before .one .result) (c .before .before .before .before .one .ensures) (c .before .to3 .given .1) in
     sym (L .inv .4 ∙ turn-fault (a .z) (a .t .now) (a .depth) (L .inv .0) (L .at) (viewEnv (L .e)) e (L .inv .1))
 
-branch-is-public-requires : (t : ℕ) → branch-lts.Need-is-public-requires (
-  is-public-reads.Asked,
-  is-public-reads.Learnt,
-  fault-reads.Asked,
-  fault-reads.Learnt,
-  guarded-env-reads.Asked,
-  guarded-env-reads.Learnt,
-  block-below t,
-  block.Post,
-  joined-reads.Asked,
-  joined-reads.Learnt,
-) (branch-at t) branch.Post
-branch-is-public-requires t c κs = search needs
-
-branch-fault-requires : (t : ℕ) → branch-lts.Need-fault-requires (
-  is-public-reads.Asked,
-  is-public-reads.Learnt,
-  fault-reads.Asked,
-  fault-reads.Learnt,
-  guarded-env-reads.Asked,
-  guarded-env-reads.Learnt,
-  block-below t,
-  block.Post,
-  joined-reads.Asked,
-  joined-reads.Learnt,
-) (branch-at t) branch.Post
-branch-fault-requires t c κs = search needs
-
-branch-returns : (t : ℕ) → branch-lts.Need-returns (
-  is-public-reads.Asked,
-  is-public-reads.Learnt,
-  fault-reads.Asked,
-  fault-reads.Learnt,
-  guarded-env-reads.Asked,
-  guarded-env-reads.Learnt,
-  block-below t,
-  block.Post,
-  joined-reads.Asked,
-  joined-reads.Learnt,
-) (branch-at t) branch.Post
+branch-returns : (t : ℕ) → branch-lts.Need-returns (branch-claims t) (branch-at t) branch.Post
 branch-returns t c =
     let a = c .before .before .before .before .args in
     let h = sym (c .before .before .is-public .ensures) ∙ not-true (c .before .before .is-public .result) (c .before .if1 .taken) in
     halts (c .fault .result) (c .fault .ensures) ∙ if-private (a .z) (a .t .now) (a .depth) (a .at) (a .register) (viewEnv (a .e)) h
 
-branch-fault-requires-2 : (t : ℕ) → branch-lts.Need-fault-requires-2 (
-  is-public-reads.Asked,
-  is-public-reads.Learnt,
-  fault-reads.Asked,
-  fault-reads.Learnt,
-  guarded-env-reads.Asked,
-  guarded-env-reads.Learnt,
-  block-below t,
-  block.Post,
-  joined-reads.Asked,
-  joined-reads.Learnt,
-) (branch-at t) branch.Post
-branch-fault-requires-2 t c κs = search needs
-
-branch-returns-2 : (t : ℕ) → branch-lts.Need-returns-2 (
-  is-public-reads.Asked,
-  is-public-reads.Learnt,
-  fault-reads.Asked,
-  fault-reads.Learnt,
-  guarded-env-reads.Asked,
-  guarded-env-reads.Learnt,
-  block-below t,
-  block.Post,
-  joined-reads.Asked,
-  joined-reads.Learnt,
-) (branch-at t) branch.Post
+branch-returns-2 : (t : ℕ) → branch-lts.Need-returns-2 (branch-claims t) (branch-at t) branch.Post
 branch-returns-2 t c =
     let a = c .before .before .before .before .before .args in
     let h = sym (c .before .before .before .is-public .ensures) ∙ not-false (c .before .before .before .is-public .result) (c .before .before .if1 .left) in
     halts (c .fault2 .result) (c .fault2 .ensures) ∙ if-deep (a .z) (a .t .now) (a .depth) (a .at) (a .register) (viewEnv (a .e)) h (c .before .if2 .taken)
 
-branch-guarded-env-requires : (t : ℕ) → branch-lts.Need-guarded-env-requires (
-  is-public-reads.Asked,
-  is-public-reads.Learnt,
-  fault-reads.Asked,
-  fault-reads.Learnt,
-  guarded-env-reads.Asked,
-  guarded-env-reads.Learnt,
-  block-below t,
-  block.Post,
-  joined-reads.Asked,
-  joined-reads.Learnt,
-) (branch-at t) branch.Post
-branch-guarded-env-requires t c κs = search needs
-
-branch-add-block : (t : ℕ) → branch-lts.Need-add-block (
-  is-public-reads.Asked,
-  is-public-reads.Learnt,
-  fault-reads.Asked,
-  fault-reads.Learnt,
-  guarded-env-reads.Asked,
-  guarded-env-reads.Learnt,
-  block-below t,
-  block.Post,
-  joined-reads.Asked,
-  joined-reads.Learnt,
-) (branch-at t) branch.Post
+branch-add-block : (t : ℕ) → branch-lts.Need-add-block (branch-claims t) (branch-at t) branch.Post
 branch-add-block t c =
     let p = c .before .before .before .before .before .pre .1 .0 .near in
     search needs
 
-branch-sub-block : (t : ℕ) → branch-lts.Need-sub-block (
-  is-public-reads.Asked,
-  is-public-reads.Learnt,
-  fault-reads.Asked,
-  fault-reads.Learnt,
-  guarded-env-reads.Asked,
-  guarded-env-reads.Learnt,
-  block-below t,
-  block.Post,
-  joined-reads.Asked,
-  joined-reads.Learnt,
-) (branch-at t) branch.Post
-branch-sub-block t c = search needs
-
-branch-block-requires : (t : ℕ) → branch-lts.Need-block-requires (
-  is-public-reads.Asked,
-  is-public-reads.Learnt,
-  fault-reads.Asked,
-  fault-reads.Learnt,
-  guarded-env-reads.Asked,
-  guarded-env-reads.Learnt,
-  block-below t,
-  block.Post,
-  joined-reads.Asked,
-  joined-reads.Learnt,
-) (branch-at t) branch.Post
+branch-block-requires : (t : ℕ) → branch-lts.Need-block-requires (branch-claims t) (branch-at t) branch.Post
 branch-block-requires t c κs =
     let n = c .before .if2 .left in
     let m = c .before .before .before .before .before .pre .0 in
@@ -307,74 +169,7 @@ branch-block-requires t c κs =
     let a = c .before .before .before .before .before .args in
     (omega arith, (moved p (omega (arith, p .short)) (omega (arith, p .shallow)), guarded-fit (a .z) (viewEnv (a .e)) (a .register) true (c .before .before .before .before .before .pre .1 .2) (c .guarded-env .ensures)))
 
-branch-enum-known-to1 : (t : ℕ) → branch-lts.Need-enum-known-to1 (
-  is-public-reads.Asked,
-  is-public-reads.Learnt,
-  fault-reads.Asked,
-  fault-reads.Learnt,
-  guarded-env-reads.Asked,
-  guarded-env-reads.Learnt,
-  block-below t,
-  block.Post,
-  joined-reads.Asked,
-  joined-reads.Learnt,
-) (branch-at t) branch.Post
-branch-enum-known-to1 t c = search needs
-
-branch-fault-requires-3 : (t : ℕ) → branch-lts.Need-fault-requires-3 (
-  is-public-reads.Asked,
-  is-public-reads.Learnt,
-  fault-reads.Asked,
-  fault-reads.Learnt,
-  guarded-env-reads.Asked,
-  guarded-env-reads.Learnt,
-  block-below t,
-  block.Post,
-  joined-reads.Asked,
-  joined-reads.Learnt,
-) (branch-at t) branch.Post
-branch-fault-requires-3 t c κs = search needs
-
-branch-enum-known-to1-2 : (t : ℕ) → branch-lts.Need-enum-known-to1-2 (
-  is-public-reads.Asked,
-  is-public-reads.Learnt,
-  fault-reads.Asked,
-  fault-reads.Learnt,
-  guarded-env-reads.Asked,
-  guarded-env-reads.Learnt,
-  block-below t,
-  block.Post,
-  joined-reads.Asked,
-  joined-reads.Learnt,
-) (branch-at t) branch.Post
-branch-enum-known-to1-2 t c = search needs
-
-branch-guarded-env-requires-2 : (t : ℕ) → branch-lts.Need-guarded-env-requires-2 (
-  is-public-reads.Asked,
-  is-public-reads.Learnt,
-  fault-reads.Asked,
-  fault-reads.Learnt,
-  guarded-env-reads.Asked,
-  guarded-env-reads.Learnt,
-  block-below t,
-  block.Post,
-  joined-reads.Asked,
-  joined-reads.Learnt,
-) (branch-at t) branch.Post
-branch-guarded-env-requires-2 t c κs = search needs
-
-branch-add-block-2 : (t : ℕ) → branch-lts.Need-add-block-2 (
-  is-public-reads.Asked,
-  is-public-reads.Learnt,
-  fault-reads.Asked,
-  fault-reads.Learnt,
-  guarded-env-reads.Asked,
-  guarded-env-reads.Learnt,
-  block-below t,
-  block.Post,
-  joined-reads.Asked,
-  joined-reads.Learnt,
-) (branch-at t) branch.Post
+branch-add-block-2 : (t : ℕ) → branch-lts.Need-add-block-2 (branch-claims t) (branch-at t) branch.Post
 branch-add-block-2 t c =
     let a = c .before .before .before .before .before .before .before .before .before .before .before .args in
     let p = c .before .before .before .before .before .before .before .before .before .before .before .pre .1 .0 in
@@ -383,32 +178,7 @@ branch-add-block-2 t c =
     let u : c .before .before .to12 .given .0 .0 ≤ 200000 = omega (arith, s, p .short, p .near, p .shallow) in
     search needs
 
-branch-sub-block-2 : (t : ℕ) → branch-lts.Need-sub-block-2 (
-  is-public-reads.Asked,
-  is-public-reads.Learnt,
-  fault-reads.Asked,
-  fault-reads.Learnt,
-  guarded-env-reads.Asked,
-  guarded-env-reads.Learnt,
-  block-below t,
-  block.Post,
-  joined-reads.Asked,
-  joined-reads.Learnt,
-) (branch-at t) branch.Post
-branch-sub-block-2 t c = search needs
-
-branch-block-requires-2 : (t : ℕ) → branch-lts.Need-block-requires-2 (
-  is-public-reads.Asked,
-  is-public-reads.Learnt,
-  fault-reads.Asked,
-  fault-reads.Learnt,
-  guarded-env-reads.Asked,
-  guarded-env-reads.Learnt,
-  block-below t,
-  block.Post,
-  joined-reads.Asked,
-  joined-reads.Learnt,
-) (branch-at t) branch.Post
+branch-block-requires-2 : (t : ℕ) → branch-lts.Need-block-requires-2 (branch-claims t) (branch-at t) branch.Post
 branch-block-requires-2 t c κs =
     let a = c .before .before .before .before .before .before .before .before .before .before .before .args in
     let n = c .before .before .before .before .before .before .before .if2 .left in
@@ -419,18 +189,7 @@ branch-block-requires-2 t c κs =
     let s = shut-near (a .z) (a .t .now) (a .depth - 1) (size (a .z) (a .t .now)) (a .at + 4) (viewEnv (c .before .before .before .before .before .before .guarded-env .result)) b in
     (omega arith, (moved p (omega (arith, s, p .short, p .shallow)) (omega (arith, p .shallow)), guarded-fit (a .z) (viewEnv (a .e)) (a .register) false (c .before .before .before .before .before .before .before .before .before .before .before .pre .1 .2) (c .guarded-env2 .ensures)))
 
-branch-joined-requires : (t : ℕ) → branch-lts.Need-joined-requires (
-  is-public-reads.Asked,
-  is-public-reads.Learnt,
-  fault-reads.Asked,
-  fault-reads.Learnt,
-  guarded-env-reads.Asked,
-  guarded-env-reads.Learnt,
-  block-below t,
-  block.Post,
-  joined-reads.Asked,
-  joined-reads.Learnt,
-) (branch-at t) branch.Post
+branch-joined-requires : (t : ℕ) → branch-lts.Need-joined-requires (branch-claims t) (branch-at t) branch.Post
 branch-joined-requires t c κs =
     let a = c .before .before .before .before .before .before .before .before .before .before .before .before .args in
     let p = c .before .before .before .before .before .before .before .before .before .before .before .before .pre .1 .0 in
@@ -447,36 +206,14 @@ branch-joined-requires t c κs =
       ends-map (Fit (a .z)) NoThrees (no-threes (a .z .registers) (a .z .arrays)) (viewEnd (c .block2 .result)) w2,
     )
 
-branch-returns-3 : (t : ℕ) → branch-lts.Need-returns-3 (
-  is-public-reads.Asked,
-  is-public-reads.Learnt,
-  fault-reads.Asked,
-  fault-reads.Learnt,
-  guarded-env-reads.Asked,
-  guarded-env-reads.Learnt,
-  block-below t,
-  block.Post,
-  joined-reads.Asked,
-  joined-reads.Learnt,
-) (branch-at t) branch.Post
+branch-returns-3 : (t : ℕ) → branch-lts.Need-returns-3 (branch-claims t) (branch-at t) branch.Post
 branch-returns-3 t c =
     let a = c .before .before .before .before .before .before .before .before .before .before .before .args in
     let h = sym (c .before .before .before .before .before .before .before .before .before .is-public .ensures) ∙ not-false (c .before .before .before .before .before .before .before .before .before .is-public .result) (c .before .before .before .before .before .before .before .before .if1 .left) in
     let b = ap (blockWalk (a .z) (a .t .now) (a .depth - 1) (size (a .z) (a .t .now)) (a .at + 4)) (sym (c .before .before .before .before .before .before .guarded-env .ensures)) ∙ arrived-end (c .before .before .before .before .before .block .result) (c .before .before .before .before .before .block .ensures) (c .before .before .to1 .given .1) in
     halts (c .fault3 .result) (c .fault3 .ensures) ∙ if-is (a .z) (a .t .now) (a .depth) (a .at) (a .register) (viewEnv (a .e)) h (c .before .before .before .before .before .before .before .if2 .left) b
 
-branch-returns-4 : (t : ℕ) → branch-lts.Need-returns-4 (
-  is-public-reads.Asked,
-  is-public-reads.Learnt,
-  fault-reads.Asked,
-  fault-reads.Learnt,
-  guarded-env-reads.Asked,
-  guarded-env-reads.Learnt,
-  block-below t,
-  block.Post,
-  joined-reads.Asked,
-  joined-reads.Learnt,
-) (branch-at t) branch.Post
+branch-returns-4 : (t : ℕ) → branch-lts.Need-returns-4 (branch-claims t) (branch-at t) branch.Post
 branch-returns-4 t c =
     let a = c .before .before .before .before .before .before .before .before .before .before .before .before .before .args in
     let h = sym (c .before .before .before .before .before .before .before .before .before .before .before .is-public .ensures) ∙ not-false (c .before .before .before .before .before .before .before .before .before .before .before .is-public .result) (c .before .before .before .before .before .before .before .before .before .before .if1 .left) in
@@ -484,100 +221,7 @@ branch-returns-4 t c =
     let d = c .before .block2 .ensures ∙ ap (blockWalk (a .z) (a .t .now) (a .depth - 1) (size (a .z) (a .t .now)) _) (c .before .before .guarded-env2 .ensures) in
     c .joined .ensures ∙ ap (joinWalk (viewEnv (c .before .before .before .before .before .before .before .block .result .env))) d ∙ if-is (a .z) (a .t .now) (a .depth) (a .at) (a .register) (viewEnv (a .e)) h (c .before .before .before .before .before .before .before .before .before .if2 .left) b
 
-one-decode-requires : (t : ℕ) → one-lts.Need-decode-requires (
-  decode-reads.Asked,
-  decode-reads.Learnt,
-  shut-reads.Asked,
-  shut-reads.Learnt,
-  simple-reads.Asked,
-  simple-reads.Learnt,
-  call-reads.Asked,
-  call-reads.Learnt,
-  branch-below t,
-  branch.Post,
-  repeat-below t,
-  repeat.Post,
-) (one-at t) one.Post
-one-decode-requires t c κs = search needs
-
-one-enum-known-d : (t : ℕ) → one-lts.Need-enum-known-d (
-  decode-reads.Asked,
-  decode-reads.Learnt,
-  shut-reads.Asked,
-  shut-reads.Learnt,
-  simple-reads.Asked,
-  simple-reads.Learnt,
-  call-reads.Asked,
-  call-reads.Learnt,
-  branch-below t,
-  branch.Post,
-  repeat-below t,
-  repeat.Post,
-) (one-at t) one.Post
-one-enum-known-d t c = search needs
-
-one-shut-requires : (t : ℕ) → one-lts.Need-shut-requires (
-  decode-reads.Asked,
-  decode-reads.Learnt,
-  shut-reads.Asked,
-  shut-reads.Learnt,
-  simple-reads.Asked,
-  simple-reads.Learnt,
-  call-reads.Asked,
-  call-reads.Learnt,
-  branch-below t,
-  branch.Post,
-  repeat-below t,
-  repeat.Post,
-) (one-at t) one.Post
-one-shut-requires t c κs = search needs
-
-one-enum-known-d-2 : (t : ℕ) → one-lts.Need-enum-known-d-2 (
-  decode-reads.Asked,
-  decode-reads.Learnt,
-  shut-reads.Asked,
-  shut-reads.Learnt,
-  simple-reads.Asked,
-  simple-reads.Learnt,
-  call-reads.Asked,
-  call-reads.Learnt,
-  branch-below t,
-  branch.Post,
-  repeat-below t,
-  repeat.Post,
-) (one-at t) one.Post
-one-enum-known-d-2 t c = search needs
-
-one-enum-known-r : (t : ℕ) → one-lts.Need-enum-known-r (
-  decode-reads.Asked,
-  decode-reads.Learnt,
-  shut-reads.Asked,
-  shut-reads.Learnt,
-  simple-reads.Asked,
-  simple-reads.Learnt,
-  call-reads.Asked,
-  call-reads.Learnt,
-  branch-below t,
-  branch.Post,
-  repeat-below t,
-  repeat.Post,
-) (one-at t) one.Post
-one-enum-known-r t c = search needs
-
-one-simple-requires : (t : ℕ) → one-lts.Need-simple-requires (
-  decode-reads.Asked,
-  decode-reads.Learnt,
-  shut-reads.Asked,
-  shut-reads.Learnt,
-  simple-reads.Asked,
-  simple-reads.Learnt,
-  call-reads.Asked,
-  call-reads.Learnt,
-  branch-below t,
-  branch.Post,
-  repeat-below t,
-  repeat.Post,
-) (one-at t) one.Post
+one-simple-requires : (t : ℕ) → one-lts.Need-simple-requires (one-claims t) (one-at t) one.Post
 one-simple-requires t c κs =
     let a = c .before .before .before .before .before .before .before .before .args in
     let e = sym (c .before .before .before .before .before .before .decode .ensures) ∙ c .before .before .before .before .d2 .given .1 in
@@ -585,36 +229,7 @@ one-simple-requires t c κs =
     let p = c .before .before .before .before .before .before .before .before .pre .1 in
     (p .0 .small, subst (Fits (a .z .registers) (a .z .arrays)) (c .before .r .given .1) (g .fits), no-threes _ _ _ (p .1))
 
-one-enum-known-r-2 : (t : ℕ) → one-lts.Need-enum-known-r-2 (
-  decode-reads.Asked,
-  decode-reads.Learnt,
-  shut-reads.Asked,
-  shut-reads.Learnt,
-  simple-reads.Asked,
-  simple-reads.Learnt,
-  call-reads.Asked,
-  call-reads.Learnt,
-  branch-below t,
-  branch.Post,
-  repeat-below t,
-  repeat.Post,
-) (one-at t) one.Post
-one-enum-known-r-2 t c = search needs
-
-one-call-requires : (t : ℕ) → one-lts.Need-call-requires (
-  decode-reads.Asked,
-  decode-reads.Learnt,
-  shut-reads.Asked,
-  shut-reads.Learnt,
-  simple-reads.Asked,
-  simple-reads.Learnt,
-  call-reads.Asked,
-  call-reads.Learnt,
-  branch-below t,
-  branch.Post,
-  repeat-below t,
-  repeat.Post,
-) (one-at t) one.Post
+one-call-requires : (t : ℕ) → one-lts.Need-call-requires (one-claims t) (one-at t) one.Post
 one-call-requires t c κs =
     let a = c .before .before .before .before .before .before .before .before .args in
     let p = c .before .before .before .before .before .before .before .before .pre .1 in
@@ -622,36 +237,7 @@ one-call-requires t c κs =
     let l = subst (Keeps (a .z .registers) (a .z .arrays) (a .z .functions)) (c .before .r2 .given .1) (good (a .z) (a .t .now) (a .at) e .keeps) in
     (p .0 .signed _ l, p .1)
 
-one-enum-known-r-3 : (t : ℕ) → one-lts.Need-enum-known-r-3 (
-  decode-reads.Asked,
-  decode-reads.Learnt,
-  shut-reads.Asked,
-  shut-reads.Learnt,
-  simple-reads.Asked,
-  simple-reads.Learnt,
-  call-reads.Asked,
-  call-reads.Learnt,
-  branch-below t,
-  branch.Post,
-  repeat-below t,
-  repeat.Post,
-) (one-at t) one.Post
-one-enum-known-r-3 t c = search needs
-
-one-branch-requires : (t : ℕ) → one-lts.Need-branch-requires (
-  decode-reads.Asked,
-  decode-reads.Learnt,
-  shut-reads.Asked,
-  shut-reads.Learnt,
-  simple-reads.Asked,
-  simple-reads.Learnt,
-  call-reads.Asked,
-  call-reads.Learnt,
-  branch-below t,
-  branch.Post,
-  repeat-below t,
-  repeat.Post,
-) (one-at t) one.Post
+one-branch-requires : (t : ℕ) → one-lts.Need-branch-requires (one-claims t) (one-at t) one.Post
 one-branch-requires t c κs =
     let a = c .before .before .before .before .before .before .before .before .args in
     let m = c .before .before .before .before .before .before .before .before .pre .0 in
@@ -660,100 +246,7 @@ one-branch-requires t c κs =
     let l = ap lengthOf (c .before .r3 .given .1) in
     (omega arith, (c .before .before .before .before .before .before .before .before .pre .1 .0, omega (arith, l, g .next, g .whole), c .before .before .before .before .before .before .before .before .pre .1 .1))
 
-one-enum-known-r-4 : (t : ℕ) → one-lts.Need-enum-known-r-4 (
-  decode-reads.Asked,
-  decode-reads.Learnt,
-  shut-reads.Asked,
-  shut-reads.Learnt,
-  simple-reads.Asked,
-  simple-reads.Learnt,
-  call-reads.Asked,
-  call-reads.Learnt,
-  branch-below t,
-  branch.Post,
-  repeat-below t,
-  repeat.Post,
-) (one-at t) one.Post
-one-enum-known-r-4 t c = search needs
-
-one-shut-requires-2 : (t : ℕ) → one-lts.Need-shut-requires-2 (
-  decode-reads.Asked,
-  decode-reads.Learnt,
-  shut-reads.Asked,
-  shut-reads.Learnt,
-  simple-reads.Asked,
-  simple-reads.Learnt,
-  call-reads.Asked,
-  call-reads.Learnt,
-  branch-below t,
-  branch.Post,
-  repeat-below t,
-  repeat.Post,
-) (one-at t) one.Post
-one-shut-requires-2 t c κs = search needs
-
-one-enum-told : (t : ℕ) → one-lts.Need-enum-told (
-  decode-reads.Asked,
-  decode-reads.Learnt,
-  shut-reads.Asked,
-  shut-reads.Learnt,
-  simple-reads.Asked,
-  simple-reads.Learnt,
-  call-reads.Asked,
-  call-reads.Learnt,
-  branch-below t,
-  branch.Post,
-  repeat-below t,
-  repeat.Post,
-) (one-at t) one.Post
-one-enum-told t c = search needs
-
-one-shut-requires-3 : (t : ℕ) → one-lts.Need-shut-requires-3 (
-  decode-reads.Asked,
-  decode-reads.Learnt,
-  shut-reads.Asked,
-  shut-reads.Learnt,
-  simple-reads.Asked,
-  simple-reads.Learnt,
-  call-reads.Asked,
-  call-reads.Learnt,
-  branch-below t,
-  branch.Post,
-  repeat-below t,
-  repeat.Post,
-) (one-at t) one.Post
-one-shut-requires-3 t c κs = search needs
-
-one-enum-known-r-5 : (t : ℕ) → one-lts.Need-enum-known-r-5 (
-  decode-reads.Asked,
-  decode-reads.Learnt,
-  shut-reads.Asked,
-  shut-reads.Learnt,
-  simple-reads.Asked,
-  simple-reads.Learnt,
-  call-reads.Asked,
-  call-reads.Learnt,
-  branch-below t,
-  branch.Post,
-  repeat-below t,
-  repeat.Post,
-) (one-at t) one.Post
-one-enum-known-r-5 t c = search needs
-
-one-repeat-requires : (t : ℕ) → one-lts.Need-repeat-requires (
-  decode-reads.Asked,
-  decode-reads.Learnt,
-  shut-reads.Asked,
-  shut-reads.Learnt,
-  simple-reads.Asked,
-  simple-reads.Learnt,
-  call-reads.Asked,
-  call-reads.Learnt,
-  branch-below t,
-  branch.Post,
-  repeat-below t,
-  repeat.Post,
-) (one-at t) one.Post
+one-repeat-requires : (t : ℕ) → one-lts.Need-repeat-requires (one-claims t) (one-at t) one.Post
 one-repeat-requires t c κs =
     let a = c .before .before .before .before .before .before .before .before .args in
     let m = c .before .before .before .before .before .before .before .before .pre .0 in
@@ -763,103 +256,13 @@ one-repeat-requires t c κs =
     let k = subst (Keeps (a .z .registers) (a .z .arrays) (a .z .functions)) (c .before .r5 .given .1) (g .keeps) in
     (omega arith, (c .before .before .before .before .before .before .before .before .pre .1 .0, omega (arith, l, g .next, g .whole), c .before .before .before .before .before .before .before .before .pre .1 .1, packed-whole _ _ _ k))
 
-one-enum-known-r-6 : (t : ℕ) → one-lts.Need-enum-known-r-6 (
-  decode-reads.Asked,
-  decode-reads.Learnt,
-  shut-reads.Asked,
-  shut-reads.Learnt,
-  simple-reads.Asked,
-  simple-reads.Learnt,
-  call-reads.Asked,
-  call-reads.Learnt,
-  branch-below t,
-  branch.Post,
-  repeat-below t,
-  repeat.Post,
-) (one-at t) one.Post
-one-enum-known-r-6 t c = search needs
-
-one-shut-requires-4 : (t : ℕ) → one-lts.Need-shut-requires-4 (
-  decode-reads.Asked,
-  decode-reads.Learnt,
-  shut-reads.Asked,
-  shut-reads.Learnt,
-  simple-reads.Asked,
-  simple-reads.Learnt,
-  call-reads.Asked,
-  call-reads.Learnt,
-  branch-below t,
-  branch.Post,
-  repeat-below t,
-  repeat.Post,
-) (one-at t) one.Post
-one-shut-requires-4 t c κs = search needs
-
-one-enum-told-2 : (t : ℕ) → one-lts.Need-enum-told-2 (
-  decode-reads.Asked,
-  decode-reads.Learnt,
-  shut-reads.Asked,
-  shut-reads.Learnt,
-  simple-reads.Asked,
-  simple-reads.Learnt,
-  call-reads.Asked,
-  call-reads.Learnt,
-  branch-below t,
-  branch.Post,
-  repeat-below t,
-  repeat.Post,
-) (one-at t) one.Post
-one-enum-told-2 t c = search needs
-
-one-shut-requires-5 : (t : ℕ) → one-lts.Need-shut-requires-5 (
-  decode-reads.Asked,
-  decode-reads.Learnt,
-  shut-reads.Asked,
-  shut-reads.Learnt,
-  simple-reads.Asked,
-  simple-reads.Learnt,
-  call-reads.Asked,
-  call-reads.Learnt,
-  branch-below t,
-  branch.Post,
-  repeat-below t,
-  repeat.Post,
-) (one-at t) one.Post
-one-shut-requires-5 t c κs = search needs
-
-one-returns : (t : ℕ) → one-lts.Need-returns (
-  decode-reads.Asked,
-  decode-reads.Learnt,
-  shut-reads.Asked,
-  shut-reads.Learnt,
-  simple-reads.Asked,
-  simple-reads.Learnt,
-  call-reads.Asked,
-  call-reads.Learnt,
-  branch-below t,
-  branch.Post,
-  repeat-below t,
-  repeat.Post,
-) (one-at t) one.Post
+one-returns : (t : ℕ) → one-lts.Need-returns (one-claims t) (one-at t) one.Post
 one-returns t c =
     let a = c .before .before .before .before .before .before .args in
     let r = record-bad (a .z) (a .t .now) (a .at) (sym (c .before .before .before .before .decode .ensures) ∙ c .before .before .d .given .1) in
     c .shut .ensures ∙ record-is (a .z) (a .t .now) (a .depth) (a .at) (viewEnv (a .e)) r
 
-one-returns-2 : (t : ℕ) → one-lts.Need-returns-2 (
-  decode-reads.Asked,
-  decode-reads.Learnt,
-  shut-reads.Asked,
-  shut-reads.Learnt,
-  simple-reads.Asked,
-  simple-reads.Learnt,
-  call-reads.Asked,
-  call-reads.Learnt,
-  branch-below t,
-  branch.Post,
-  repeat-below t,
-  repeat.Post,
-) (one-at t) one.Post
+one-returns-2 : (t : ℕ) → one-lts.Need-returns-2 (one-claims t) (one-at t) one.Post
 one-returns-2 t c =
     let a = c .before .before .before .before .before .before .before .before .before .args in
     let e = sym (c .before .before .before .before .before .before .before .decode .ensures) ∙ c .before .before .before .before .before .d2 .given .1 in
@@ -867,20 +270,7 @@ one-returns-2 t c =
     let n = good (a .z) (a .t .now) (a .at) e .next ∙ ap (λ (i : Record). a .at + lengthOf i) (c .before .before .r .given .1) in
     c .simple .ensures ∙ ap (λ (n : ℕ). simpleWalk (a .z) (c .before .before .r .given .0 .0) (a .at) n (viewEnv (a .e))) n ∙ record-is (a .z) (a .t .now) (a .depth) (a .at) (viewEnv (a .e)) r
 
-one-returns-3 : (t : ℕ) → one-lts.Need-returns-3 (
-  decode-reads.Asked,
-  decode-reads.Learnt,
-  shut-reads.Asked,
-  shut-reads.Learnt,
-  simple-reads.Asked,
-  simple-reads.Learnt,
-  call-reads.Asked,
-  call-reads.Learnt,
-  branch-below t,
-  branch.Post,
-  repeat-below t,
-  repeat.Post,
-) (one-at t) one.Post
+one-returns-3 : (t : ℕ) → one-lts.Need-returns-3 (one-claims t) (one-at t) one.Post
 one-returns-3 t c =
     let a = c .before .before .before .before .before .before .before .before .before .args in
     let e = sym (c .before .before .before .before .before .before .before .decode .ensures) ∙ c .before .before .before .before .before .d2 .given .1 in
@@ -888,254 +278,56 @@ one-returns-3 t c =
     let n = good (a .z) (a .t .now) (a .at) e .next ∙ ap (λ (i : Record). a .at + lengthOf i) (c .before .before .r2 .given .1) in
     c .call .ensures ∙ ap (λ (n : ℕ). callWalk (a .z) (a .t .now) (c .before .before .r2 .given .0 .0) (c .before .before .r2 .given .0 .1 .0) (a .at) n (viewEnv (a .e))) n ∙ record-is (a .z) (a .t .now) (a .depth) (a .at) (viewEnv (a .e)) r
 
-one-returns-4 : (t : ℕ) → one-lts.Need-returns-4 (
-  decode-reads.Asked,
-  decode-reads.Learnt,
-  shut-reads.Asked,
-  shut-reads.Learnt,
-  simple-reads.Asked,
-  simple-reads.Learnt,
-  call-reads.Asked,
-  call-reads.Learnt,
-  branch-below t,
-  branch.Post,
-  repeat-below t,
-  repeat.Post,
-) (one-at t) one.Post
+one-returns-4 : (t : ℕ) → one-lts.Need-returns-4 (one-claims t) (one-at t) one.Post
 one-returns-4 t c =
     let a = c .before .before .before .before .before .before .before .before .before .args in
     let e = sym (c .before .before .before .before .before .before .before .decode .ensures) ∙ c .before .before .before .before .before .d2 .given .1 in
     let r = record-got (a .z) (a .t .now) (a .at) e ∙ c .before .before .r3 .given .1 in
     c .branch .ensures ∙ record-is (a .z) (a .t .now) (a .depth) (a .at) (viewEnv (a .e)) r
 
-one-returns-5 : (t : ℕ) → one-lts.Need-returns-5 (
-  decode-reads.Asked,
-  decode-reads.Learnt,
-  shut-reads.Asked,
-  shut-reads.Learnt,
-  simple-reads.Asked,
-  simple-reads.Learnt,
-  call-reads.Asked,
-  call-reads.Learnt,
-  branch-below t,
-  branch.Post,
-  repeat-below t,
-  repeat.Post,
-) (one-at t) one.Post
+one-returns-5 : (t : ℕ) → one-lts.Need-returns-5 (one-claims t) (one-at t) one.Post
 one-returns-5 t c =
     let a = c .before .before .before .before .before .before .before .before .before .args in
     let e = sym (c .before .before .before .before .before .before .before .decode .ensures) ∙ c .before .before .before .before .before .d2 .given .1 in
     let r = record-got (a .z) (a .t .now) (a .at) e ∙ c .before .before .r4 .given .1 in
     c .shut2 .ensures ∙ record-is (a .z) (a .t .now) (a .depth) (a .at) (viewEnv (a .e)) r
 
-one-returns-6 : (t : ℕ) → one-lts.Need-returns-6 (
-  decode-reads.Asked,
-  decode-reads.Learnt,
-  shut-reads.Asked,
-  shut-reads.Learnt,
-  simple-reads.Asked,
-  simple-reads.Learnt,
-  call-reads.Asked,
-  call-reads.Learnt,
-  branch-below t,
-  branch.Post,
-  repeat-below t,
-  repeat.Post,
-) (one-at t) one.Post
+one-returns-6 : (t : ℕ) → one-lts.Need-returns-6 (one-claims t) (one-at t) one.Post
 one-returns-6 t c =
     let a = c .before .before .before .before .before .before .before .before .args in
     let e = sym (c .before .before .before .before .before .before .decode .ensures) ∙ c .before .before .before .before .d2 .given .1 in
     let r = record-got (a .z) (a .t .now) (a .at) e ∙ c .before .enum-told .given .1 in
     c .shut3 .ensures ∙ record-is (a .z) (a .t .now) (a .depth) (a .at) (viewEnv (a .e)) r
 
-one-returns-7 : (t : ℕ) → one-lts.Need-returns-7 (
-  decode-reads.Asked,
-  decode-reads.Learnt,
-  shut-reads.Asked,
-  shut-reads.Learnt,
-  simple-reads.Asked,
-  simple-reads.Learnt,
-  call-reads.Asked,
-  call-reads.Learnt,
-  branch-below t,
-  branch.Post,
-  repeat-below t,
-  repeat.Post,
-) (one-at t) one.Post
+one-returns-7 : (t : ℕ) → one-lts.Need-returns-7 (one-claims t) (one-at t) one.Post
 one-returns-7 t c =
     let a = c .before .before .before .before .before .before .before .before .before .args in
     let e = sym (c .before .before .before .before .before .before .before .decode .ensures) ∙ c .before .before .before .before .before .d2 .given .1 in
     let r = record-got (a .z) (a .t .now) (a .at) e ∙ c .before .before .r5 .given .1 in
     c .repeat .ensures ∙ record-is (a .z) (a .t .now) (a .depth) (a .at) (viewEnv (a .e)) r
 
-one-returns-8 : (t : ℕ) → one-lts.Need-returns-8 (
-  decode-reads.Asked,
-  decode-reads.Learnt,
-  shut-reads.Asked,
-  shut-reads.Learnt,
-  simple-reads.Asked,
-  simple-reads.Learnt,
-  call-reads.Asked,
-  call-reads.Learnt,
-  branch-below t,
-  branch.Post,
-  repeat-below t,
-  repeat.Post,
-) (one-at t) one.Post
+one-returns-8 : (t : ℕ) → one-lts.Need-returns-8 (one-claims t) (one-at t) one.Post
 one-returns-8 t c =
     let a = c .before .before .before .before .before .before .before .before .before .args in
     let e = sym (c .before .before .before .before .before .before .before .decode .ensures) ∙ c .before .before .before .before .before .d2 .given .1 in
     let r = record-got (a .z) (a .t .now) (a .at) e ∙ c .before .before .r6 .given .1 in
     c .shut4 .ensures ∙ record-is (a .z) (a .t .now) (a .depth) (a .at) (viewEnv (a .e)) r
 
-one-returns-9 : (t : ℕ) → one-lts.Need-returns-9 (
-  decode-reads.Asked,
-  decode-reads.Learnt,
-  shut-reads.Asked,
-  shut-reads.Learnt,
-  simple-reads.Asked,
-  simple-reads.Learnt,
-  call-reads.Asked,
-  call-reads.Learnt,
-  branch-below t,
-  branch.Post,
-  repeat-below t,
-  repeat.Post,
-) (one-at t) one.Post
+one-returns-9 : (t : ℕ) → one-lts.Need-returns-9 (one-claims t) (one-at t) one.Post
 one-returns-9 t c =
     let a = c .before .before .before .before .before .before .before .before .args in
     let e = sym (c .before .before .before .before .before .before .decode .ensures) ∙ c .before .before .before .before .d2 .given .1 in
     let r = record-got (a .z) (a .t .now) (a .at) e ∙ c .before .enum-told2 .given .1 in
     c .shut5 .ensures ∙ record-is (a .z) (a .t .now) (a .depth) (a .at) (viewEnv (a .e)) r
 
-repeat-env-of-requires : (t : ℕ) → repeat-lts.Need-env-of-requires (
-  env-of-reads.Asked,
-  env-of-reads.Learnt,
-  env-within-reads.Asked,
-  env-within-reads.Learnt,
-  fault-reads.Asked,
-  fault-reads.Learnt,
-  is-public-reads.Asked,
-  is-public-reads.Learnt,
-  guarded-env-reads.Asked,
-  guarded-env-reads.Learnt,
-  block-below t,
-  block.Post,
-  back-reads.Asked,
-  back-reads.Learnt,
-) (repeat-at t) repeat.Post
-repeat-env-of-requires t c κs = search needs
-
-repeat-env-within-requires : (t : ℕ) → repeat-lts.Need-env-within-requires (
-  env-of-reads.Asked,
-  env-of-reads.Learnt,
-  env-within-reads.Asked,
-  env-within-reads.Learnt,
-  fault-reads.Asked,
-  fault-reads.Learnt,
-  is-public-reads.Asked,
-  is-public-reads.Learnt,
-  guarded-env-reads.Asked,
-  guarded-env-reads.Learnt,
-  block-below t,
-  block.Post,
-  back-reads.Asked,
-  back-reads.Learnt,
-) (repeat-at t) repeat.Post
-repeat-env-within-requires t c κs = search needs
-
-repeat-fault-requires : (t : ℕ) → repeat-lts.Need-fault-requires (
-  env-of-reads.Asked,
-  env-of-reads.Learnt,
-  env-within-reads.Asked,
-  env-within-reads.Learnt,
-  fault-reads.Asked,
-  fault-reads.Learnt,
-  is-public-reads.Asked,
-  is-public-reads.Learnt,
-  guarded-env-reads.Asked,
-  guarded-env-reads.Learnt,
-  block-below t,
-  block.Post,
-  back-reads.Asked,
-  back-reads.Learnt,
-) (repeat-at t) repeat.Post
-repeat-fault-requires t c κs = search needs
-
-repeat-returns : (t : ℕ) → repeat-lts.Need-returns (
-  env-of-reads.Asked,
-  env-of-reads.Learnt,
-  env-within-reads.Asked,
-  env-within-reads.Learnt,
-  fault-reads.Asked,
-  fault-reads.Learnt,
-  is-public-reads.Asked,
-  is-public-reads.Learnt,
-  guarded-env-reads.Asked,
-  guarded-env-reads.Learnt,
-  block-below t,
-  block.Post,
-  back-reads.Asked,
-  back-reads.Learnt,
-) (repeat-at t) repeat.Post
+repeat-returns : (t : ℕ) → repeat-lts.Need-returns (repeat-claims t) (repeat-at t) repeat.Post
 repeat-returns t c =
     let a = c .before .before .before .before .before .args in
     let p = c .before .before .before .before .before .pre .1 in
     let w = within-packed (a .z) (viewEnv (a .e)) (a .packed) (p .2) (p .3) (c .before .before .env-within .ensures) (c .before .before .before .env-of .ensures) (not-true (c .before .before .env-within .result) (c .before .if1 .taken)) in
     halts (c .fault .result) (c .fault .ensures) ∙ while-out (a .z) (a .t .now) (a .depth) (a .at) (a .register) (a .packed) (viewEnv (a .e)) w
 
-repeat-is-public-requires : (t : ℕ) → repeat-lts.Need-is-public-requires (
-  env-of-reads.Asked,
-  env-of-reads.Learnt,
-  env-within-reads.Asked,
-  env-within-reads.Learnt,
-  fault-reads.Asked,
-  fault-reads.Learnt,
-  is-public-reads.Asked,
-  is-public-reads.Learnt,
-  guarded-env-reads.Asked,
-  guarded-env-reads.Learnt,
-  block-below t,
-  block.Post,
-  back-reads.Asked,
-  back-reads.Learnt,
-) (repeat-at t) repeat.Post
-repeat-is-public-requires t c κs = search needs
-
-repeat-fault-requires-2 : (t : ℕ) → repeat-lts.Need-fault-requires-2 (
-  env-of-reads.Asked,
-  env-of-reads.Learnt,
-  env-within-reads.Asked,
-  env-within-reads.Learnt,
-  fault-reads.Asked,
-  fault-reads.Learnt,
-  is-public-reads.Asked,
-  is-public-reads.Learnt,
-  guarded-env-reads.Asked,
-  guarded-env-reads.Learnt,
-  block-below t,
-  block.Post,
-  back-reads.Asked,
-  back-reads.Learnt,
-) (repeat-at t) repeat.Post
-repeat-fault-requires-2 t c κs = search needs
-
-repeat-returns-2 : (t : ℕ) → repeat-lts.Need-returns-2 (
-  env-of-reads.Asked,
-  env-of-reads.Learnt,
-  env-within-reads.Asked,
-  env-within-reads.Learnt,
-  fault-reads.Asked,
-  fault-reads.Learnt,
-  is-public-reads.Asked,
-  is-public-reads.Learnt,
-  guarded-env-reads.Asked,
-  guarded-env-reads.Learnt,
-  block-below t,
-  block.Post,
-  back-reads.Asked,
-  back-reads.Learnt,
-) (repeat-at t) repeat.Post
+repeat-returns-2 : (t : ℕ) → repeat-lts.Need-returns-2 (repeat-claims t) (repeat-at t) repeat.Post
 repeat-returns-2 t c =
     let a = c .before .before .before .before .before .before .before .args in
     let p = c .before .before .before .before .before .before .before .pre .1 in
@@ -1143,40 +335,7 @@ repeat-returns-2 t c =
     let h = ap (λ (E : Env). eqb (E .regs (a .register)) 0) (sym (c .before .before .before .before .before .env-of .ensures)) ∙ sym (c .before .before .is-public .ensures) ∙ not-true (c .before .before .is-public .result) (c .before .if2 .taken) in
     halts (c .fault2 .result) (c .fault2 .ensures) ∙ while-private (a .z) (a .t .now) (a .depth) (a .at) (a .register) (a .packed) (viewEnv (a .e)) w h
 
-repeat-fault-requires-3 : (t : ℕ) → repeat-lts.Need-fault-requires-3 (
-  env-of-reads.Asked,
-  env-of-reads.Learnt,
-  env-within-reads.Asked,
-  env-within-reads.Learnt,
-  fault-reads.Asked,
-  fault-reads.Learnt,
-  is-public-reads.Asked,
-  is-public-reads.Learnt,
-  guarded-env-reads.Asked,
-  guarded-env-reads.Learnt,
-  block-below t,
-  block.Post,
-  back-reads.Asked,
-  back-reads.Learnt,
-) (repeat-at t) repeat.Post
-repeat-fault-requires-3 t c κs = search needs
-
-repeat-returns-3 : (t : ℕ) → repeat-lts.Need-returns-3 (
-  env-of-reads.Asked,
-  env-of-reads.Learnt,
-  env-within-reads.Asked,
-  env-within-reads.Learnt,
-  fault-reads.Asked,
-  fault-reads.Learnt,
-  is-public-reads.Asked,
-  is-public-reads.Learnt,
-  guarded-env-reads.Asked,
-  guarded-env-reads.Learnt,
-  block-below t,
-  block.Post,
-  back-reads.Asked,
-  back-reads.Learnt,
-) (repeat-at t) repeat.Post
+repeat-returns-3 : (t : ℕ) → repeat-lts.Need-returns-3 (repeat-claims t) (repeat-at t) repeat.Post
 repeat-returns-3 t c =
     let a = c .before .before .before .before .before .before .before .before .args in
     let p = c .before .before .before .before .before .before .before .before .pre .1 in
@@ -1184,78 +343,12 @@ repeat-returns-3 t c =
     let h = ap (λ (E : Env). eqb (E .regs (a .register)) 0) (sym (c .before .before .before .before .before .before .env-of .ensures)) ∙ sym (c .before .before .before .is-public .ensures) ∙ not-false (c .before .before .before .is-public .result) (c .before .before .if2 .left) in
     halts (c .fault3 .result) (c .fault3 .ensures) ∙ while-deep (a .z) (a .t .now) (a .depth) (a .at) (a .register) (a .packed) (viewEnv (a .e)) w h (c .before .if3 .taken)
 
-repeat-guarded-env-requires : (t : ℕ) → repeat-lts.Need-guarded-env-requires (
-  env-of-reads.Asked,
-  env-of-reads.Learnt,
-  env-within-reads.Asked,
-  env-within-reads.Learnt,
-  fault-reads.Asked,
-  fault-reads.Learnt,
-  is-public-reads.Asked,
-  is-public-reads.Learnt,
-  guarded-env-reads.Asked,
-  guarded-env-reads.Learnt,
-  block-below t,
-  block.Post,
-  back-reads.Asked,
-  back-reads.Learnt,
-) (repeat-at t) repeat.Post
-repeat-guarded-env-requires t c κs = search needs
-
-repeat-add-block : (t : ℕ) → repeat-lts.Need-add-block (
-  env-of-reads.Asked,
-  env-of-reads.Learnt,
-  env-within-reads.Asked,
-  env-within-reads.Learnt,
-  fault-reads.Asked,
-  fault-reads.Learnt,
-  is-public-reads.Asked,
-  is-public-reads.Learnt,
-  guarded-env-reads.Asked,
-  guarded-env-reads.Learnt,
-  block-below t,
-  block.Post,
-  back-reads.Asked,
-  back-reads.Learnt,
-) (repeat-at t) repeat.Post
+repeat-add-block : (t : ℕ) → repeat-lts.Need-add-block (repeat-claims t) (repeat-at t) repeat.Post
 repeat-add-block t c =
     let p = c .before .before .before .before .before .before .before .before .pre .1 .0 .near in
     search needs
 
-repeat-sub-block : (t : ℕ) → repeat-lts.Need-sub-block (
-  env-of-reads.Asked,
-  env-of-reads.Learnt,
-  env-within-reads.Asked,
-  env-within-reads.Learnt,
-  fault-reads.Asked,
-  fault-reads.Learnt,
-  is-public-reads.Asked,
-  is-public-reads.Learnt,
-  guarded-env-reads.Asked,
-  guarded-env-reads.Learnt,
-  block-below t,
-  block.Post,
-  back-reads.Asked,
-  back-reads.Learnt,
-) (repeat-at t) repeat.Post
-repeat-sub-block t c = search needs
-
-repeat-block-requires : (t : ℕ) → repeat-lts.Need-block-requires (
-  env-of-reads.Asked,
-  env-of-reads.Learnt,
-  env-within-reads.Asked,
-  env-within-reads.Learnt,
-  fault-reads.Asked,
-  fault-reads.Learnt,
-  is-public-reads.Asked,
-  is-public-reads.Learnt,
-  guarded-env-reads.Asked,
-  guarded-env-reads.Learnt,
-  block-below t,
-  block.Post,
-  back-reads.Asked,
-  back-reads.Learnt,
-) (repeat-at t) repeat.Post
+repeat-block-requires : (t : ℕ) → repeat-lts.Need-block-requires (repeat-claims t) (repeat-at t) repeat.Post
 repeat-block-requires t c κs =
     let n = c .before .if3 .left in
     let m = c .before .before .before .before .before .before .before .before .pre .0 in
@@ -1265,44 +358,14 @@ repeat-block-requires t c κs =
     let g = c .guarded-env .ensures ∙ ap (λ (E : Env). guarded E (a .register) true) (c .before .before .before .before .before .before .env-of .ensures) in
     (omega arith, (moved p (omega (arith, p .short)) (omega (arith, p .shallow)), guarded-fit (a .z) (envOf (a .packed)) (a .register) true (c .before .before .before .before .before .before .before .before .pre .1 .3) g))
 
-repeat-back-requires : (t : ℕ) → repeat-lts.Need-back-requires (
-  env-of-reads.Asked,
-  env-of-reads.Learnt,
-  env-within-reads.Asked,
-  env-within-reads.Learnt,
-  fault-reads.Asked,
-  fault-reads.Learnt,
-  is-public-reads.Asked,
-  is-public-reads.Learnt,
-  guarded-env-reads.Asked,
-  guarded-env-reads.Learnt,
-  block-below t,
-  block.Post,
-  back-reads.Asked,
-  back-reads.Learnt,
-) (repeat-at t) repeat.Post
+repeat-back-requires : (t : ℕ) → repeat-lts.Need-back-requires (repeat-claims t) (repeat-at t) repeat.Post
 repeat-back-requires t c κs =
     let a = c .before .before .before .before .before .before .before .before .before .args in
     let p = c .before .before .before .before .before .before .before .before .before .pre .1 .0 in
     let l = c .before .before .before .before .before .before .before .before .before .pre .1 .1 in
     block-close (a .z) (a .t .now) (a .depth - 1) (size (a .z) (a .t .now)) (a .at + 11) (viewEnv (c .before .guarded-env .result)) (c .block .result) (p .short) (omega (arith, p .short)) (omega (arith, p .shallow)) (c .block .ensures)
 
-repeat-returns-4 : (t : ℕ) → repeat-lts.Need-returns-4 (
-  env-of-reads.Asked,
-  env-of-reads.Learnt,
-  env-within-reads.Asked,
-  env-within-reads.Learnt,
-  fault-reads.Asked,
-  fault-reads.Learnt,
-  is-public-reads.Asked,
-  is-public-reads.Learnt,
-  guarded-env-reads.Asked,
-  guarded-env-reads.Learnt,
-  block-below t,
-  block.Post,
-  back-reads.Asked,
-  back-reads.Learnt,
-) (repeat-at t) repeat.Post
+repeat-returns-4 : (t : ℕ) → repeat-lts.Need-returns-4 (repeat-claims t) (repeat-at t) repeat.Post
 repeat-returns-4 t c =
     let a = c .before .before .before .before .before .before .before .before .before .before .args in
     let p = c .before .before .before .before .before .before .before .before .before .before .pre .1 in
@@ -1314,92 +377,65 @@ repeat-returns-4 t c =
     c .back .ensures (a .z) f (p .3) ∙ ap (backWalk (a .z) (a .register) (a .packed)) d ∙ while-is (a .z) (a .t .now) (a .depth) (a .at) (a .register) (a .packed) (viewEnv (a .e)) w h (c .before .before .before .if3 .left)
 
 pub +block+branch+one+repeat-spec : {M : Type 1} → statement M
-+block+branch+one+repeat-spec = close μ-block μ-branch μ-one μ-repeat (λ t. block-lts.spec (
-  one-below t,
-  one.Post,
-)
++block+branch+one+repeat-spec = close μ-block μ-branch μ-one μ-repeat (λ t. block-lts.spec (block-claims t)
     (block-at t)
     block.Post
     block-Inv-loop
     block-μ-loop
     (block-loop-holds t)
     (block-one-requires t)
-    (block-enum-known-to t)
+    (λ c. search needs)
     (block-loop-less t)
     (block-loop-again t)
-    (block-enum-known-to-2 t)
+    (λ c. search needs)
     (block-returns t)
-    (block-enum-known-to-3 t)
+    (λ c. search needs)
     (block-returns-2 t))
-    (λ t. branch-lts.spec (
-      is-public-reads.Asked,
-      is-public-reads.Learnt,
-      fault-reads.Asked,
-      fault-reads.Learnt,
-      guarded-env-reads.Asked,
-      guarded-env-reads.Learnt,
-      block-below t,
-      block.Post,
-      joined-reads.Asked,
-      joined-reads.Learnt,
-    )
+    (λ t. branch-lts.spec (branch-claims t)
     (branch-at t)
     branch.Post
-    (branch-is-public-requires t)
-    (branch-fault-requires t)
+    (λ c κs. search needs)
+    (λ c κs. search needs)
     (branch-returns t)
-    (branch-fault-requires-2 t)
+    (λ c κs. search needs)
     (branch-returns-2 t)
-    (branch-guarded-env-requires t)
+    (λ c κs. search needs)
     (branch-add-block t)
-    (branch-sub-block t)
+    (λ c. search needs)
     (branch-block-requires t)
-    (branch-enum-known-to1 t)
-    (branch-fault-requires-3 t)
-    (branch-enum-known-to1-2 t)
-    (branch-guarded-env-requires-2 t)
+    (λ c. search needs)
+    (λ c κs. search needs)
+    (λ c. search needs)
+    (λ c κs. search needs)
     (branch-add-block-2 t)
-    (branch-sub-block-2 t)
+    (λ c. search needs)
     (branch-block-requires-2 t)
     (branch-joined-requires t)
     (branch-returns-3 t)
     (branch-returns-4 t))
-    (λ t. one-lts.spec (
-      decode-reads.Asked,
-      decode-reads.Learnt,
-      shut-reads.Asked,
-      shut-reads.Learnt,
-      simple-reads.Asked,
-      simple-reads.Learnt,
-      call-reads.Asked,
-      call-reads.Learnt,
-      branch-below t,
-      branch.Post,
-      repeat-below t,
-      repeat.Post,
-    )
+    (λ t. one-lts.spec (one-claims t)
     (one-at t)
     one.Post
-    (one-decode-requires t)
-    (one-enum-known-d t)
-    (one-shut-requires t)
-    (one-enum-known-d-2 t)
-    (one-enum-known-r t)
+    (λ c κs. search needs)
+    (λ c. search needs)
+    (λ c κs. search needs)
+    (λ c. search needs)
+    (λ c. search needs)
     (one-simple-requires t)
-    (one-enum-known-r-2 t)
+    (λ c. search needs)
     (one-call-requires t)
-    (one-enum-known-r-3 t)
+    (λ c. search needs)
     (one-branch-requires t)
-    (one-enum-known-r-4 t)
-    (one-shut-requires-2 t)
-    (one-enum-told t)
-    (one-shut-requires-3 t)
-    (one-enum-known-r-5 t)
+    (λ c. search needs)
+    (λ c κs. search needs)
+    (λ c. search needs)
+    (λ c κs. search needs)
+    (λ c. search needs)
     (one-repeat-requires t)
-    (one-enum-known-r-6 t)
-    (one-shut-requires-4 t)
-    (one-enum-told-2 t)
-    (one-shut-requires-5 t)
+    (λ c. search needs)
+    (λ c κs. search needs)
+    (λ c. search needs)
+    (λ c κs. search needs)
     (one-returns t)
     (one-returns-2 t)
     (one-returns-3 t)
@@ -1409,36 +445,21 @@ pub +block+branch+one+repeat-spec : {M : Type 1} → statement M
     (one-returns-7 t)
     (one-returns-8 t)
     (one-returns-9 t))
-    λ t. repeat-lts.spec (
-      env-of-reads.Asked,
-      env-of-reads.Learnt,
-      env-within-reads.Asked,
-      env-within-reads.Learnt,
-      fault-reads.Asked,
-      fault-reads.Learnt,
-      is-public-reads.Asked,
-      is-public-reads.Learnt,
-      guarded-env-reads.Asked,
-      guarded-env-reads.Learnt,
-      block-below t,
-      block.Post,
-      back-reads.Asked,
-      back-reads.Learnt,
-    )
+    λ t. repeat-lts.spec (repeat-claims t)
     (repeat-at t)
     repeat.Post
-    (repeat-env-of-requires t)
-    (repeat-env-within-requires t)
-    (repeat-fault-requires t)
+    (λ c κs. search needs)
+    (λ c κs. search needs)
+    (λ c κs. search needs)
     (repeat-returns t)
-    (repeat-is-public-requires t)
-    (repeat-fault-requires-2 t)
+    (λ c κs. search needs)
+    (λ c κs. search needs)
     (repeat-returns-2 t)
-    (repeat-fault-requires-3 t)
+    (λ c κs. search needs)
     (repeat-returns-3 t)
-    (repeat-guarded-env-requires t)
+    (λ c κs. search needs)
     (repeat-add-block t)
-    (repeat-sub-block t)
+    (λ c. search needs)
     (repeat-block-requires t)
     (repeat-back-requires t)
     (repeat-returns-4 t)

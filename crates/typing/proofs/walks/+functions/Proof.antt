@@ -22,103 +22,44 @@ abbrev functions-below : ℕ → In 1 functions-kinds.ps
 functions-below t =
     and 1 functions-kinds.ps (falls 1 functions-kinds.ps _<_ μ-functions t) functions.Pre
 
-functions-returns : (t : ℕ) → functions-lts.Need-returns (
-  function-reads.Asked,
-  function-reads.Learnt,
-  functions-below t,
-  functions.Post,
-) (functions-at t) functions.Post
+abbrev functions-claims : ℕ → functions-lts.Claims
+functions-claims t = (function-reads.Asked, function-reads.Learnt, functions-below t, functions.Post)
+
+functions-returns : (t : ℕ) → functions-lts.Need-returns (functions-claims t) (functions-at t) functions.Post
 functions-returns t c =
     let a = c .before .before .args in
     functions-none (a .z) (a .t .now) (a .n) (c .if1 .taken)
 
-functions-sub-g : (t : ℕ) → functions-lts.Need-sub-g (
-  function-reads.Asked,
-  function-reads.Learnt,
-  functions-below t,
-  functions.Post,
-) (functions-at t) functions.Post
-functions-sub-g t c = search needs
-
-functions-function-requires : (t : ℕ) → functions-lts.Need-function-requires (
-  function-reads.Asked,
-  function-reads.Learnt,
-  functions-below t,
-  functions.Post,
-) (functions-at t) functions.Post
+functions-function-requires : (t : ℕ) → functions-lts.Need-function-requires (functions-claims t) (functions-at t) functions.Post
 functions-function-requires t c κs = (c .before .before .before .pre .1 .0, omega arith)
 
-functions-enum-known-w : (t : ℕ) → functions-lts.Need-enum-known-w (
-  function-reads.Asked,
-  function-reads.Learnt,
-  functions-below t,
-  functions.Post,
-) (functions-at t) functions.Post
-functions-enum-known-w t c = search needs
-
-functions-enum-known-w-2 : (t : ℕ) → functions-lts.Need-enum-known-w-2 (
-  function-reads.Asked,
-  function-reads.Learnt,
-  functions-below t,
-  functions.Post,
-) (functions-at t) functions.Post
-functions-enum-known-w-2 t c = search needs
-
-functions-sub-functions : (t : ℕ) → functions-lts.Need-sub-functions (
-  function-reads.Asked,
-  function-reads.Learnt,
-  functions-below t,
-  functions.Post,
-) (functions-at t) functions.Post
-functions-sub-functions t c = search needs
-
-functions-functions-requires : (t : ℕ) → functions-lts.Need-functions-requires (
-  function-reads.Asked,
-  function-reads.Learnt,
-  functions-below t,
-  functions.Post,
-) (functions-at t) functions.Post
+functions-functions-requires : (t : ℕ) → functions-lts.Need-functions-requires (functions-claims t) (functions-at t) functions.Post
 functions-functions-requires t c κs =
     let n = c .before .before .before .before .before .if1 .left in
     let m = c .before .before .before .before .before .before .before .pre .0 in
     let p = c .before .before .before .before .before .before .before .pre .1 in
     (omega arith, (p .0, omega (arith, p .1)))
 
-functions-returns-2 : (t : ℕ) → functions-lts.Need-returns-2 (
-  function-reads.Asked,
-  function-reads.Learnt,
-  functions-below t,
-  functions.Post,
-) (functions-at t) functions.Post
+functions-returns-2 : (t : ℕ) → functions-lts.Need-returns-2 (functions-claims t) (functions-at t) functions.Post
 functions-returns-2 t c =
     let a = c .before .before .before .before .before .before .before .args in
     functions-is (a .z) (a .t .now) (a .n) (c .before .before .before .before .before .if1 .left) (sym (c .before .before .before .function .ensures) ∙ c .before .w .given .1)
 
-functions-returns-3 : (t : ℕ) → functions-lts.Need-returns-3 (
-  function-reads.Asked,
-  function-reads.Learnt,
-  functions-below t,
-  functions.Post,
-) (functions-at t) functions.Post
+functions-returns-3 : (t : ℕ) → functions-lts.Need-returns-3 (functions-claims t) (functions-at t) functions.Post
 functions-returns-3 t c =
     let a = c .before .before .before .before .before .before .before .before .args in
     c .functions .ensures ∙ functions-is (a .z) (a .t .now) (a .n) (c .before .before .before .before .before .before .if1 .left) (sym (c .before .before .before .before .function .ensures) ∙ c .before .before .w2 .given .1)
 
 pub +functions-spec : {M : Type 1} → statement M
-+functions-spec = close μ-functions λ t. functions-lts.spec (
-  function-reads.Asked,
-  function-reads.Learnt,
-  functions-below t,
-  functions.Post,
-)
++functions-spec = close μ-functions λ t. functions-lts.spec (functions-claims t)
     (functions-at t)
     functions.Post
     (functions-returns t)
-    (functions-sub-g t)
+    (λ c. search needs)
     (functions-function-requires t)
-    (functions-enum-known-w t)
-    (functions-enum-known-w-2 t)
-    (functions-sub-functions t)
+    (λ c. search needs)
+    (λ c. search needs)
+    (λ c. search needs)
     (functions-functions-requires t)
     (functions-returns-2 t)
     (functions-returns-3 t)

@@ -16,33 +16,12 @@ use Rattle.typing.proofs.environments.guarded_env.Reads as guarded-env-
 use Rattle.typing.proofs.environments.env_of.Reads as env-of-reads
 use Rattle.typing.proofs.walks.fault.Reads as fault-reads
 
-enum-known-to : tie.Need-enum-known-to
-enum-known-to c = search needs
-
-fault-requires : tie.Need-fault-requires
-fault-requires c κs = search needs
-
-enum-known-to-2 : tie.Need-enum-known-to-2
-enum-known-to-2 c = search needs
-
-env-of-requires : tie.Need-env-of-requires
-env-of-requires c κs = search needs
-
-env-within-requires : tie.Need-env-within-requires
-env-within-requires c κs = search needs
-
-fault-requires-2 : tie.Need-fault-requires-2
-fault-requires-2 c κs = search needs
-
 returns : tie.Need-returns
 returns c = λ z f k.
     let a = c .before .before .before .before .before .before .before .before .args in
     let e = viewEnv (a .body .env) in
     let w = within-packed z e (a .packed) (at-shut (Fit z) (a .body) (c .before .before .before .before .before .to2 .given .1) f) k (c .before .before .env-within .ensures) (c .before .before .before .env-of .ensures) (not-true (c .before .before .env-within .result) (c .before .if1 .taken)) in
     halts (c .fault2 .result) (c .fault2 .ensures) ∙ back-out z (a .register) (a .packed) _ e w ∙ sym (ap (backWalk z (a .register) (a .packed)) (seen-end (a .body) (c .before .before .before .before .before .to2 .given .1)))
-
-guarded-env-requires : tie.Need-guarded-env-requires
-guarded-env-requires c κs = search needs
 
 add-t14 : tie.Need-add-t14
 add-t14 c =
@@ -66,14 +45,14 @@ pub back-spec : {M : Type 1} → statement M
 back-spec =
     tie.close
     (tie.spec
-    enum-known-to
-    fault-requires
-    enum-known-to-2
-    env-of-requires
-    env-within-requires
-    fault-requires-2
+    (λ c. search needs)
+    (λ c κs. search needs)
+    (λ c. search needs)
+    (λ c κs. search needs)
+    (λ c κs. search needs)
+    (λ c κs. search needs)
     returns
-    guarded-env-requires
+    (λ c κs. search needs)
     add-t14
     returns-2
     returns-3)

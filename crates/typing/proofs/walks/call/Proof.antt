@@ -16,24 +16,6 @@ use Rattle.typing.proofs.environments.env_within.Reads as env-within-re
 use Rattle.typing.proofs.environments.returned_env.Reads as returned-env-reads
 use Rattle.typing.proofs.environments.env_of.Reads as env-of-reads
 
-in-of-requires : tie.Need-in-of-requires
-in-of-requires c κs = search needs
-
-env-of-requires : tie.Need-env-of-requires
-env-of-requires c κs = search needs
-
-env-within-requires : tie.Need-env-within-requires
-env-within-requires c κs = search needs
-
-out-of-requires : tie.Need-out-of-requires
-out-of-requires c κs = search needs
-
-env-of-requires-2 : tie.Need-env-of-requires-2
-env-of-requires-2 c κs = search needs
-
-returned-env-requires : tie.Need-returned-env-requires
-returned-env-requires c κs = search needs
-
 returns : tie.Need-returns
 returns c =
     let a = c .before .before .before .before .before .before .before .before .args in
@@ -53,11 +35,11 @@ pub call-spec : {M : Type 1} → statement M
 call-spec =
     tie.close
     (tie.spec
-    in-of-requires
-    env-of-requires
-    env-within-requires
-    out-of-requires
-    env-of-requires-2
-    returned-env-requires
+    (λ c κs. search needs)
+    (λ c κs. search needs)
+    (λ c κs. search needs)
+    (λ c κs. search needs)
+    (λ c κs. search needs)
+    (λ c κs. search needs)
     returns
     returns-2)

@@ -18,36 +18,12 @@ use Rattle.typing.proofs.environments.env_within.Reads as env-within-re
 use Rattle.typing.proofs.environments.env_of.Reads as env-of-reads
 use Rattle.typing.proofs.walks.block.Reads as block-reads
 
-start-of-requires : tie.Need-start-of-requires
-start-of-requires c κs = search needs
-
-in-of-requires : tie.Need-in-of-requires
-in-of-requires c κs = search needs
-
-env-of-requires : tie.Need-env-of-requires
-env-of-requires c κs = search needs
-
 block-requires : tie.Need-block-requires
 block-requires c κs =
     let a = c .before .before .before .before .args in
     let p = c .before .before .before .before .pre in
     let s = c .before .before .start-of .ensures .1 in
     (moved (p .0) (omega arith) (omega arith), subst (Fit (a .z)) (sym (c .env-of .ensures ∙ ap envOf (c .before .in-of .ensures))) (p .0 .signed (a .g) (p .1) .0))
-
-enum-known-to : tie.Need-enum-known-to
-enum-known-to c = search needs
-
-enum-known-to-2 : tie.Need-enum-known-to-2
-enum-known-to-2 c = search needs
-
-out-of-requires : tie.Need-out-of-requires
-out-of-requires c κs = search needs
-
-env-of-requires-2 : tie.Need-env-of-requires-2
-env-of-requires-2 c κs = search needs
-
-env-within-requires : tie.Need-env-within-requires
-env-within-requires c κs = search needs
 
 returns : tie.Need-returns
 returns c =
@@ -80,15 +56,15 @@ pub function-spec : {M : Type 1} → statement M
 function-spec =
     tie.close
     (tie.spec
-    start-of-requires
-    in-of-requires
-    env-of-requires
+    (λ c κs. search needs)
+    (λ c κs. search needs)
+    (λ c κs. search needs)
     block-requires
-    enum-known-to
-    enum-known-to-2
-    out-of-requires
-    env-of-requires-2
-    env-within-requires
+    (λ c. search needs)
+    (λ c. search needs)
+    (λ c κs. search needs)
+    (λ c κs. search needs)
+    (λ c κs. search needs)
     returns
     returns-2
     returns-3)

@@ -13,15 +13,6 @@ use Rattle.typing.proofs.walks.joined.Lts as lts
 use Rattle.typing.proofs.environments.join_envs.Reads as join-envs-reads
 use Rattle.typing.proofs.walks.fault.Reads as fault-reads
 
-enum-known-to : tie.Need-enum-known-to
-enum-known-to c = search needs
-
-fault-requires : tie.Need-fault-requires
-fault-requires c κs = search needs
-
-enum-known-to-2 : tie.Need-enum-known-to-2
-enum-known-to-2 c = search needs
-
 join-envs-requires : tie.Need-join-envs-requires
 join-envs-requires c κs =
     let p = c .before .before .before .before .pre in
@@ -46,9 +37,9 @@ pub joined-spec : {M : Type 1} → statement M
 joined-spec =
     tie.close
     (tie.spec
-    enum-known-to
-    fault-requires
-    enum-known-to-2
+    (λ c. search needs)
+    (λ c κs. search needs)
+    (λ c. search needs)
     join-envs-requires
     add-t10
     returns

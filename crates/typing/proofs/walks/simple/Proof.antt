@@ -8,12 +8,6 @@ use Rattle.typing.proofs.walks.simple.Lts as lts
 use Rattle.typing.proofs.rules.after_simple.Reads as after-simple-reads
 use Rattle.typing.proofs.rules.fault_of.Reads as fault-of-reads
 
-fault-of-requires : tie.Need-fault-of-requires
-fault-of-requires c κs = search needs
-
-after-simple-requires : tie.Need-after-simple-requires
-after-simple-requires c κs = search needs
-
 returns : tie.Need-returns
 returns c =
     let a = c .before .before .before .args in
@@ -25,4 +19,4 @@ returns-2 c =
     simple-out (a .z) (a .s) (a .at) (a .next) (viewEnv (a .e)) (c .before .fault-of .ensures) (c .if1 .left)
 
 pub simple-spec : {M : Type 1} → statement M
-simple-spec = tie.close (tie.spec fault-of-requires after-simple-requires returns returns-2)
+simple-spec = tie.close (tie.spec (λ c κs. search needs) (λ c κs. search needs) returns returns-2)
