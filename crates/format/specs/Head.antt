@@ -8,17 +8,17 @@ use Rattle.model.specs.Tests.{pick, all}
 use Rattle.model.specs.Packing.{packedIn}
 use Rattle.model.specs.declared.Sizes.{Sizes}
 use Rattle.format.specs.declared.To.{To}
-use Rattle.format.specs.declared.To.the-variants.{At, Fault as Off}
+use Rattle.format.specs.declared.To.the-variants.{At}
 use Rattle.format.specs.Format.{byte, word16, packedAt, shaped}
 
 -- what follows an answer that is no fault; a fault is handed on
 abbrev pub then : To → (ℕ → To) → To
 then (At p) g = g p
-then (Off n p) g = Off n p
+then (To.Fault n p) g = To.Fault n p
 
 -- a record of kind k and n bytes is due at `at`
 abbrev pub dueAt : ℕ → List ℕ → ℕ → ℕ → List Bool → To → To
-dueAt k t at n tests good = pick (leb (length t) at) (Off 2 at) (pick (eqb (byte t at) k) (shaped Off t at n tests good) (Off 3 at))
+dueAt k t at n tests good = pick (leb (length t) at) (To.Fault 2 at) (pick (eqb (byte t at) k) (shaped To.Fault t at n tests good) (To.Fault 3 at))
 
 -- registers 1..16, arrays 0..8, functions 1..32
 unfoldable pub sizesAt : List ℕ → ℕ → To
@@ -34,7 +34,7 @@ arrayAt t at = dueAt 2 t at 3 (leb 1 (word16 t (at + 1)) ∷ leb (word16 t (at +
 unfoldable pub signatureAt : Sizes → List ℕ → ℕ → ℕ → To
 signatureAt z t n at =
     let fits : ℕ → Bool = λ p. packedIn (z .registers) (z .arrays) (packedAt t p) in
-    dueAt 3 t at 17 (fits (at + 3) ∷ fits (at + 10) ∷ []) (pick (all (eqb n 0 ∷ leb 1 (byte t (at + 3)) ∷ [])) (Off 8 at) (At (at + 17)))
+    dueAt 3 t at 17 (fits (at + 3) ∷ fits (at + 10) ∷ []) (pick (all (eqb n 0 ∷ leb 1 (byte t (at + 3)) ∷ [])) (To.Fault 8 at) (At (at + 17)))
 
 unfoldable pub arraysAt : List ℕ → ℕ → ℕ → To
 arraysAt t zero at = At at

@@ -5,7 +5,7 @@ use mathlib.Core.Path.{_≡_, sym, ap, _∙_}
 use lib.Bits.{bitAnd, bitXor, xor-lt}
 use lib.Pow.{pow-pos, shl-exact}
 use Rattle.model.specs.Packing.{slot}
-use Rattle.model.specs.Words.{lows, putWord, slot-is, slot-small, bits, mask-lows}
+use Rattle.model.specs.theory.Words.{lows, putWord, slot-is, slot-small, bits, mask-lows}
 
 slots : (i : ℕ) → 2 ^ (2 * i) ≡ 4 ^ i
 slots i = let e : 2 * i ≡ i + i = omega arith in ap (λ (k : ℕ). 2 ^ k) e ∙ sym (bits i)

@@ -1,13 +1,13 @@
 // Levels: 0 public, 1 transient, 2 secret; and packed words of them, sixteen slots of two bits, slot 0 lowest. The functions of two
 // words, and those of every slot, work on the whole word at once. Each contract holds for every word; what the forms that it names mean,
-// slot by slot, is proved in Rattle.model.specs.Words.
+// slot by slot, is proved in Rattle.model.specs.theory.Words.
 ghost use mathlib.Core.Path.{_≡_};
 ghost use Prim.Native.Nat.{_%_, max, min};
 ghost use lib.Dec.{ltb};
 ghost use Rattle.model.specs.Packing.{slot};
 ghost use Rattle.model.specs.Rules.{settle};
 ghost use Rattle.model.specs.Tests.{pick};
-ghost use Rattle.model.specs.Words.{lows, joinWords, withinWords, settleWord, putWord};
+ghost use Rattle.model.specs.theory.Words.{lows, joinWords, withinWords, settleWord, putWord};
 
 // The larger of two levels.
 pub fn larger(a: u8, b: u8) -> u8

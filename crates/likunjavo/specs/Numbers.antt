@@ -6,7 +6,7 @@ use Rattle.model.specs.Tests.{pick}
 use Rattle.typing.specs.declared.Verdict.{Verdict}
 use Rattle.typing.specs.declared.Verdict.the-variants.{Accepted, Refused}
 use Rattle.message.specs.declared.Part.{Part}
-use Rattle.message.specs.declared.Part.the-variants.{Table, List as Directives}
+use Rattle.message.specs.declared.Part.the-variants.{Table}
 use Rattle.machine.specs.declared.Outcome.{Outcome}
 use Rattle.machine.specs.declared.Outcome.the-variants.{Refused as Unrun, Stopped}
 use Rattle.machine.specs.Runs.{Ran, ran}
@@ -19,7 +19,7 @@ verdictNumbers (Refused n p) = n ∷ p ∷ 0 ∷ []
 -- which slice (0: the table, 1: the list), start, count
 abbrev pub partNumbers : Part → List ℕ
 partNumbers (Table a k) = 0 ∷ a ∷ k ∷ []
-partNumbers (Directives a k) = 1 ∷ a ∷ k ∷ []
+partNumbers (Part.List a k) = 1 ∷ a ∷ k ∷ []
 
 -- number, place, steps, misspeculating, masked
 abbrev pub outcomeNumbers : Outcome → List ℕ

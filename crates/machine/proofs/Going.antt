@@ -10,7 +10,7 @@ use lib.Seq.{sets}
 use borrow.Author.Tests.{lt-leb, le-leb}
 use Rattle.model.specs.Memory.{sets-append}
 use Rattle.model.specs.Table.{Table, entry}
-use Rattle.model.specs.Stands.{Stands, step-stands, stack-bound}
+use Rattle.model.specs.theory.Stands.{Stands, step-stands, stack-bound}
 use Rattle.model.specs.Machine.{Ctl, Data, Stepped, Stop, Went, step, size, Final, final, observed, afterStep, ended, run}
 use Rattle.model.specs.declared.Sizes.{Sizes}
 use Rattle.model.specs.declared.Directive.{Directive}
@@ -21,8 +21,8 @@ use Rattle.model.specs.declared.Record.the-variants.{Call}
 use Rattle.format.specs.Format.{wordsFrom}
 use Rattle.format.specs.Layout.{sizesOf, recordOf, returnOf, tableWith, tableOf}
 use Rattle.reading.specs.Reading.{readAt}
-use Rattle.reading.specs.Known.{known}
-use Rattle.reading.specs.Limits.{read-limits}
+use Rattle.reading.specs.theory.Known.{known}
+use Rattle.reading.specs.theory.Limits.{read-limits}
 use Rattle.reading.specs.declared.Answer.the-variants.{Reads}
 use Rattle.machine.specs.declared.State.{State}
 use Rattle.machine.specs.declared.Turn.{Turn}

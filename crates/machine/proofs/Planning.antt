@@ -15,7 +15,7 @@ use lib.Pow.{pow-pos}
 use lib.Seq.{getD-set-same, getD-set-other}
 use borrow.Author.Tests.{eq-eqb, ne-eqb, lt-ltb, le-ltb, le-leb, lt-leb, ltb-true}
 use Rattle.model.specs.Tests.{pick, pick-ind}
-use Rattle.model.specs.Alike.{Touches, access-touches}
+use Rattle.model.specs.theory.Alike.{Touches, access-touches}
 use Rattle.model.specs.Table.{Table}
 use Rattle.model.specs.Sites.{homeOf, site}
 use Rattle.model.specs.Machine.{Ctl, Data, reg, wordsOf, wordAt, wrote, stored, flagged, operate, Work, halt, did, Stop, Went, plain, onward, byAccess, pop, inRange, strayed, access, work, wrong, right, stepOf, step}

@@ -14,7 +14,7 @@ use Rattle.model.specs.declared.Directive.{Directive}
 use Rattle.format.specs.Format.{wordsFrom}
 use Rattle.format.specs.Layout.{tableWith, tableOf}
 use Rattle.reading.specs.Reading.{readAt}
-use Rattle.reading.specs.Known.{known}
+use Rattle.reading.specs.theory.Known.{known}
 use Rattle.reading.specs.declared.Answer.the-variants.{Reads}
 use Rattle.machine.specs.declared.State.{State}
 use Rattle.machine.specs.declared.Stacking.{Stacking}

@@ -12,16 +12,16 @@ use Rattle.model.specs.Table.{Table, entry}
 use Rattle.model.specs.Rules.{reading}
 use Rattle.model.specs.Records.{length-pos}
 use Rattle.model.specs.InOrder.{Chain, chain-le}
-use Rattle.model.specs.Functions.{ret-alone}
-use Rattle.model.specs.Places.{spans, look, between, no-return}
-use Rattle.model.specs.Code.{Known, At, enters-at, depth}
-use Rattle.model.specs.Stands.{Stands, EndStands, stack-bound, run-stands}
+use Rattle.model.specs.theory.Functions.{ret-alone}
+use Rattle.model.specs.theory.Places.{spans, look, between, no-return}
+use Rattle.model.specs.theory.Code.{Known, At, enters-at, depth}
+use Rattle.model.specs.theory.Stands.{Stands, EndStands, stack-bound, run-stands}
 use Rattle.model.specs.Machine.{Ctl, Data, Final, final, run, startCtl}
 use Rattle.model.specs.declared.Sizes.{Sizes}
 use Rattle.model.specs.declared.Directive.{Directive}
 use Rattle.format.specs.Layout.{tableOf}
 use Rattle.reading.specs.Reading.{readAt}
-use Rattle.reading.specs.Known.{known}
+use Rattle.reading.specs.theory.Known.{known}
 use Rattle.reading.specs.declared.Answer.the-variants.{Reads}
 
 -- where control stands: in a function, at a record that is met by going through its records from its start

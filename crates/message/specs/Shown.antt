@@ -8,7 +8,7 @@ use lib.Dec.{leb, eqb}
 use Rattle.model.specs.Tests.{pick, all, pick-ind}
 use Rattle.format.specs.Format.{byte, find, codeLength}
 use Rattle.message.specs.declared.Part.{Part}
-use Rattle.message.specs.declared.Part.the-variants.{Table, List as Directives}
+use Rattle.message.specs.declared.Part.the-variants.{Table}
 
 -- the length of a record, by its kind: of the head, or of code
 abbrev pub kindLength : ℕ → ℕ
@@ -31,12 +31,12 @@ clipped in-which s p k = in-which (min p (length s)) (min k (length s - p))
 unfoldable pub partOf : List ℕ → List ℕ → ℕ → ℕ → Part
 partOf t d n p =
     pick (all (leb 2 n ∷ leb n 14 ∷ [])) (clipped Table t p (tableCount t n p))
-    (pick (all (eqb n 16 ∷ leb (length d) 16384 ∷ [])) (clipped Directives d p (directiveLength (byte d p))) (Table 0 0))
+    (pick (all (eqb n 16 ∷ leb (length d) 16384 ∷ [])) (clipped Part.List d p (directiveLength (byte d p))) (Table 0 0))
 
 -- a part lies in its slice
 abbrev pub Lies : List ℕ → List ℕ → Part → Type 0
 Lies t d (Table a k) = a + k ≤ length t
-Lies t d (Directives a k) = a + k ≤ length d
+Lies t d (Part.List a k) = a + k ≤ length d
 
 pub part-lies : (t d : List ℕ) (n p : ℕ) → Lies t d (partOf t d n p)
 unfolding partOf

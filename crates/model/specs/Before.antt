@@ -8,8 +8,8 @@ use Rattle.model.specs.Levels.{Env, Within, within-refl}
 use Rattle.model.specs.Table.{Table}
 use Rattle.model.specs.Blocks.{Rules, Every}
 use Rattle.model.specs.Rules.{settle, after, typingBy, Typed}
-use Rattle.model.specs.Settled.{settle-down}
-use Rattle.model.specs.Monotone.{function-below}
+use Rattle.model.specs.theory.Settled.{settle-down}
+use Rattle.model.specs.theory.Monotone.{function-below}
 use Rattle.model.specs.declared.Status.the-variants.{Updated}
 use Rattle.model.specs.declared.Simple.{Simple}
 use Rattle.model.specs.declared.Simple.the-variants.{Const, Op, Select, Load, Store, Init, Update, Protect, LoadFixed, StoreFixed}

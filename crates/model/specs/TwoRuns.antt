@@ -11,9 +11,9 @@ use lib.ListN.{length, List·getD-eq-default}
 use Rattle.model.specs.Table.{Table, entry}
 use Rattle.model.specs.Rules.{typing, Typed}
 use Rattle.model.specs.Machine.{Data, reg, wordsOf, wordAt, Final, final, run, startCtl}
-use Rattle.model.specs.Alike.{top, Alike, weaken}
-use Rattle.model.specs.Secure.{Related, SameEnd, arrive, run-same}
-use Rattle.model.specs.Code.{Known, At, enters-at, flows-at, ends-within}
+use Rattle.model.specs.theory.Alike.{top, Alike, weaken}
+use Rattle.model.specs.theory.Secure.{Related, SameEnd, arrive, run-same}
+use Rattle.model.specs.theory.Code.{Known, At, enters-at, flows-at, ends-within}
 use Rattle.model.specs.declared.Directive.{Directive}
 
 -- both of the table's sizes, equal in every register and array whose level on the way in is at most the highest that counts:

@@ -7,12 +7,12 @@ use Rattle.model.specs.Table.{Table}
 use Rattle.model.specs.Blocks.{TypesFunction}
 use Rattle.model.specs.Rules.{typing, Typed, reading}
 use Rattle.model.specs.Faults.{FirstFault}
-use Rattle.model.specs.Places.{nesting}
+use Rattle.model.specs.theory.Places.{nesting}
 use Rattle.model.specs.Walk.{Ending, Reached, Failed, typeFunction}
 use Rattle.model.specs.declared.Typing.{Typing}
 use Rattle.model.specs.declared.Typing.the-variants.{Fault}
 use Rattle.model.specs.Decide.{numberOf, typingTests, typing-right}
-use Rattle.model.specs.Passes.{Verdict, verdict, Passes, passes-types}
+use Rattle.model.specs.theory.Passes.{Verdict, verdict, Passes, passes-types}
 use Rattle.model.specs.Levels.{Env}
 
 abbrev pub onPass : Ending Env → Typing → Typing

@@ -1,5 +1,2 @@
 pub mod Reading
-pub mod Steps
-pub mod Linked
-pub mod Limits
-pub mod Known
+pub mod theory

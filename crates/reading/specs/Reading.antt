@@ -11,13 +11,12 @@ use Rattle.model.specs.declared.Record.the-variants.{Do, Call, If, Else, Endif,
 use Rattle.model.specs.declared.Walked.{Walked}
 use Rattle.model.specs.declared.Walked.the-variants.{Next, Shut, Fault}
 use Rattle.model.specs.declared.Ended.{Ended}
-use Rattle.model.specs.declared.Ended.the-variants.{Shut as Closed, Fault as Failed}
 use Rattle.format.specs.Format.{byte, word16, find, decodeAt}
 use Rattle.format.specs.Layout.{sizesOf, startOf}
 use Rattle.format.specs.declared.Decoded.{Decoded}
 use Rattle.format.specs.declared.Decoded.the-variants.{Got, Bad}
 use Rattle.format.specs.declared.To.{To}
-use Rattle.format.specs.declared.To.the-variants.{At, Fault as Off}
+use Rattle.format.specs.declared.To.the-variants.{At}
 use Rattle.format.specs.Head.{then, sizesAt, arraysAt, signaturesAt}
 use Rattle.reading.specs.declared.Answer.{Answer}
 use Rattle.reading.specs.declared.Answer.the-variants.{Reads, Refused}
@@ -29,12 +28,12 @@ onRecord bad (Bad n p) g = bad n p
 
 abbrev pub onNext : Walked → (ℕ → Ended) → Ended
 onNext (Next p) g = g p
-onNext (Shut p) g = Closed p
-onNext (Fault n p) g = Failed n p
+onNext (Shut p) g = Ended.Shut p
+onNext (Fault n p) g = Ended.Fault n p
 
 abbrev pub onShut : {A : Type 0} → (ℕ → ℕ → A) → Ended → (ℕ → A) → A
-onShut bad (Closed p) g = g p
-onShut bad (Failed n p) g = bad n p
+onShut bad (Ended.Shut p) g = g p
+onShut bad (Ended.Fault n p) g = bad n p
 
 -- ---- THE CODE. A closing kind is allowed only where it is the closing kind c that is awaited
 unfoldable pub allowed : ℕ → ℕ → Bool
@@ -72,12 +71,12 @@ readWith B cur t at Return next = Shut at
 
 -- records by f until one shuts the block; k bounds their number
 unfoldable pub blockWith : (ℕ → Walked) → ℕ → ℕ → Ended
-blockWith f zero at = Failed 2 at
+blockWith f zero at = Ended.Fault 2 at
 blockWith f (suc k) at = onNext (f at) (blockWith f k)
 
 -- an instruction of function `cur` with d nestings left, c being the closing kind awaited
 unfoldable pub instrAt : ℕ → ℕ → Sizes → List ℕ → ℕ → ℕ → Walked
-instrAt zero cur z t c at = onRecord Fault (recordAt z t c at) (readWith (λ _ _. Failed 6 at) cur t at)
+instrAt zero cur z t c at = onRecord Fault (recordAt z t c at) (readWith (λ _ _. Ended.Fault 6 at) cur t at)
 instrAt (suc d) cur z t c at = onRecord Fault (recordAt z t c at) (readWith (λ k. blockWith (instrAt d cur z t k) (length t)) cur t at)
 
 unfoldable pub blockAt : ℕ → ℕ → Sizes → List ℕ → ℕ → ℕ → Ended
@@ -85,16 +84,16 @@ blockAt d cur z t c = blockWith (instrAt d cur z t c) (length t)
 
 -- the blocks of the record at `at`, with d nestings left
 abbrev pub blocksAt : ℕ → ℕ → Sizes → List ℕ → ℕ → ℕ → ℕ → Ended
-blocksAt zero cur z t at c x = Failed 6 at
+blocksAt zero cur z t at c x = Ended.Fault 6 at
 blocksAt (suc d) cur z t at c x = blockAt d cur z t c x
 
 -- function i begins at `at`: its first record's 3, 2, 4, then its start place, then all of it up to its RETURN
 unfoldable pub functionAt : Sizes → List ℕ → ℕ → ℕ → To
-functionAt z t i at = onRecord Off (recordAt z t 0x25 at) (λ _ _. pick (eqb at (startOf z t i)) (onShut Off (blockAt 16 i z t 0x25 at) (λ p. At (p + 1))) (Off 5 at))
+functionAt z t i at = onRecord To.Fault (recordAt z t 0x25 at) (λ _ _. pick (eqb at (startOf z t i)) (onShut To.Fault (blockAt 16 i z t 0x25 at) (λ p. At (p + 1))) (To.Fault 5 at))
 
 -- the last n functions, and nothing after them
 unfoldable pub functionsAt : Sizes → List ℕ → ℕ → ℕ → To
-functionsAt z t zero at = pick (eqb at (length t)) (At at) (Off 9 at)
+functionsAt z t zero at = pick (eqb at (length t)) (At at) (To.Fault 9 at)
 functionsAt z t (suc n) at = then (functionAt z t (z .functions - suc n) at) (functionsAt z t n)
 
 -- ---- THE TABLE
@@ -103,7 +102,7 @@ partsAt z t = then (sizesAt t 0) (λ p. then (arraysAt t (z .arrays) p) (λ q. t
 
 abbrev pub answered : Sizes → To → Answer
 answered z (At p) = Reads z
-answered z (Off n p) = Refused n p
+answered z (To.Fault n p) = Refused n p
 
 unfoldable pub readAt : List ℕ → Answer
 readAt t = pick (ltb 32768 (length t)) (Refused 1 0) (answered (sizesOf t) (partsAt (sizesOf t) t))

@@ -18,7 +18,7 @@ use Rattle.model.specs.TwoRuns.{Agree, SameShown, secure}
 use Rattle.model.specs.declared.Observation.{Observation}
 use Rattle.format.specs.Format.{wordsFrom}
 use Rattle.format.specs.Layout.{sizesOf, tableOf}
-use Rattle.reading.specs.Known.{known}
+use Rattle.reading.specs.theory.Known.{known}
 use Rattle.typing.specs.Check.{checkAt}
 use Rattle.typing.specs.Checked.{Readable, Pass, passes-exactly}
 use Rattle.machine.specs.declared.Listed.{Listed}

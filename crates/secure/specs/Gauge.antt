@@ -14,7 +14,7 @@ use Rattle.model.specs.Rules.{kill, guardStatus, callStatus, settle, beside}
 use Rattle.model.specs.Before.{typingBefore}
 use Rattle.model.specs.Faults.{FirstFault, inside, past, fails}
 use Rattle.model.specs.Walk.{typeBlock, typeInstr, typeFunction}
-use Rattle.model.specs.Passes.{past-single}
+use Rattle.model.specs.theory.Passes.{past-single}
 use Rattle.model.specs.Decide.{numberOf}
 use Rattle.model.specs.Typing.{typeFrom}
 use Rattle.format.specs.Format.{rowAt, decodeAt, wordsFrom}

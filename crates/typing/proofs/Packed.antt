@@ -11,7 +11,7 @@ use Rattle.model.specs.Tests.{pick, put, pick-ind}
 use Rattle.model.specs.Levels.{levelsWithin}
 use Rattle.model.specs.Packing.{slot}
 use Rattle.model.specs.Rules.{settle, beside}
-use Rattle.model.specs.Words.{NoThree, Levelled, lows, joinWords, withinWords, settleWord, putWord, slot-small, bits, lows-lt, lows-levels, slot-lows, join-words, within-words, settle-word, put-word}
+use Rattle.model.specs.theory.Words.{NoThree, Levelled, lows, joinWords, withinWords, settleWord, putWord, slot-small, bits, lows-lt, lows-levels, slot-lows, join-words, within-words, settle-word, put-word}
 
 -- one slot
 pub put-slot : (w i v : ℕ) {r : ℕ} → i < 16 → v < 4 → r ≡ pick (ltb i 16) (putWord w i (v % 4)) w → slot r ≡ put (slot w) i v

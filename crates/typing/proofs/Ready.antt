@@ -4,7 +4,7 @@ use native.Mathlib.Omega.{arith}
 use mathlib.Core.Path.{_≡_, ap, _∙_}
 use mathlib.Core.List.{List}
 use Rattle.model.specs.declared.Sizes.{Sizes}
-use Rattle.reading.specs.Limits.{read-limits}
+use Rattle.reading.specs.theory.Limits.{read-limits}
 use Rattle.reading.specs.Reading.{readAt}
 use Rattle.reading.specs.declared.Answer.the-variants.{Reads}
 use Rattle.typing.specs.Envs.{Ready}

@@ -12,7 +12,7 @@ use Rattle.model.specs.Levels.{Env, within}
 use Rattle.model.specs.Packing.{envOf}
 use Rattle.model.specs.Rules.{after, returned, guarded, typing}
 use Rattle.model.specs.Typing.{typeFrom, onPass}
-use Rattle.model.specs.Whole.{Whole, Where, WhereEnds, guarded-whole, record-whole, block-whole}
+use Rattle.model.specs.theory.Whole.{Whole, Where, WhereEnds, guarded-whole, record-whole, block-whole}
 use Rattle.model.specs.Walk.{Walking, Onward, Closed, Halt, Ending, Reached, Failed, onNext, onShut, instrWith, typeBlock, inside, instr-at, typeFunction}
 use Rattle.model.specs.Decide.{meets, simpleNumber, faultOf, fault-met, typingTests}
 use Rattle.model.specs.declared.Sizes.{Sizes}

@@ -7,7 +7,7 @@ use mathlib.Core.List.{List}
 use lib.ListN.{length}
 use Rattle.model.specs.Rules.{typing, Typed}
 use Rattle.model.specs.Faults.{FirstFault}
-use Rattle.model.specs.OneFault.{one-fault, typed-faultless}
+use Rattle.model.specs.theory.OneFault.{one-fault, typed-faultless}
 use Rattle.model.specs.Decide.{numberOf}
 use Rattle.model.specs.Typing.{typeAll, Says, type-says, passes-typed}
 use Rattle.model.specs.declared.Sizes.{Sizes}
@@ -15,7 +15,7 @@ use Rattle.model.specs.declared.Typing.{Typing}
 use Rattle.model.specs.declared.Typing.the-variants.{Passes, Fault}
 use Rattle.format.specs.Layout.{sizesOf, tableOf}
 use Rattle.reading.specs.Reading.{readAt}
-use Rattle.reading.specs.Linked.{sizes-read, all-read}
+use Rattle.reading.specs.theory.Linked.{sizes-read, all-read}
 use Rattle.reading.specs.declared.Answer.{Answer}
 use Rattle.reading.specs.declared.Answer.the-variants.{Reads}
 use Rattle.typing.specs.declared.Verdict.{Verdict}

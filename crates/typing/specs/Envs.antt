@@ -4,7 +4,7 @@ use mathlib.Core.List.{List}
 use lib.ListN.{length}
 use Rattle.model.specs.Levels.{Env}
 use Rattle.model.specs.Packing.{slot, envOf}
-use Rattle.model.specs.Whole.{Whole}
+use Rattle.model.specs.theory.Whole.{Whole}
 use Rattle.model.specs.declared.Sizes.{Sizes}
 use Rattle.model.specs.declared.Status.{Status}
 use Rattle.format.specs.Layout.{inOf, outOf}

@@ -9,11 +9,11 @@ use Rattle.model.specs.Packing.{envOf}
 use Rattle.model.specs.Records.{Keeps}
 use Rattle.model.specs.Rules.{guarded}
 use Rattle.model.specs.Table.{Table}
-use Rattle.model.specs.Whole.{Whole, Where, packed-whole, guarded-whole, record-whole}
+use Rattle.model.specs.theory.Whole.{Whole, Where, packed-whole, guarded-whole, record-whole}
 use Rattle.model.specs.declared.Packed.{Packed}
 use Rattle.model.specs.declared.Record.the-variants.{While}
 use Rattle.format.specs.Layout.{sizesOf, tableOf}
-use Rattle.reading.specs.Known.{signed}
+use Rattle.reading.specs.theory.Known.{signed}
 use Rattle.typing.specs.Checked.{Readable}
 use Rattle.typing.specs.Walks.{recordWalk}
 

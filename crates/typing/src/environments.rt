@@ -9,7 +9,7 @@ ghost use Prim.Native.Nat.{ℕ};
 ghost use Rattle.model.specs.Levels.{joinStatus, sameStatus, covers, join, within};
 ghost use Rattle.model.specs.Packing.{statusOf, envOf};
 ghost use Rattle.model.specs.Rules.{kill, guardStatus, callStatus, guarded, returned};
-ghost use Rattle.model.specs.Whole.{Whole, NoThrees};
+ghost use Rattle.model.specs.theory.Whole.{Whole, NoThrees};
 ghost use Rattle.typing.specs.Envs.{envFrom, viewEnv};
 
 // Equal statuses.

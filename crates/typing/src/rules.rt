@@ -22,8 +22,8 @@ ghost use Rattle.model.specs.Packing.{slot};
 ghost use Rattle.model.specs.Records.{SimpleFits};
 ghost use Rattle.model.specs.Rules.{beside, written, raised, stored, storedFixed, fenced, updated, protected, after};
 ghost use Rattle.model.specs.Tests.{pick};
-ghost use Rattle.model.specs.Whole.{NoThrees};
-ghost use Rattle.model.specs.Words.{NoThree};
+ghost use Rattle.model.specs.theory.Whole.{NoThrees};
+ghost use Rattle.model.specs.theory.Words.{NoThree};
 ghost use Rattle.typing.specs.Envs.{viewEnv, Small};
 
 // Register i is public.

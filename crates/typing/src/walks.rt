@@ -26,7 +26,7 @@ ghost use Rattle.model.specs.Packing.{envOf};
 ghost use Rattle.model.specs.Records.{SimpleFits};
 ghost use Rattle.model.specs.Typing.{typeFrom};
 ghost use Rattle.model.specs.Walk.{Closed};
-ghost use Rattle.model.specs.Whole.{NoThrees, WhereEnds};
+ghost use Rattle.model.specs.theory.Whole.{NoThrees, WhereEnds};
 ghost use Rattle.model.specs.declared.Sizes.{Sizes};
 ghost use Rattle.typing.specs.Envs.{viewEnv, Fit, Signed, Small, Ready};
 ghost use Rattle.typing.specs.Walks.{viewWalk, viewEnd, Close, bare, simpleWalk, callWalk, joinWalk, backWalk, table, size, recordWalk, blockWalk, ifWalk, whileWalk, functionWalk};

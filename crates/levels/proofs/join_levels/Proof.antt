@@ -1,5 +1,5 @@
 use mathlib.Core.Path.{refl}
-use Rattle.model.specs.Words.{lows, joinWords}
+use Rattle.model.specs.theory.Words.{lows, joinWords}
 use Rattle.levels.proofs.join_levels.Statement.{statement}
 use Rattle.levels.proofs.join_levels.Tie as tie
 use Rattle.levels.proofs.join_levels.Reads as reads

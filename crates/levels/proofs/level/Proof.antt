@@ -1,5 +1,5 @@
 use mathlib.Core.Path.{sym}
-use Rattle.model.specs.Words.{slot-past}
+use Rattle.model.specs.theory.Words.{slot-past}
 use Rattle.levels.proofs.Shifts.{shifted-down}
 use borrow.Author.Needs.{needs}
 use Rattle.levels.proofs.level.Statement.{statement}

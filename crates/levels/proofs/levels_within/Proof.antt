@@ -1,7 +1,7 @@
 use mathlib.Core.Path.{ap}
 use lib.Dec.{eqb}
 use Prim.Native.Nat.{ℕ}
-use Rattle.model.specs.Words.{withinWords}
+use Rattle.model.specs.theory.Words.{withinWords}
 use borrow.Author.Needs.{needs}
 use Rattle.levels.proofs.levels_within.Statement.{statement}
 use Rattle.levels.proofs.levels_within.Tie as tie

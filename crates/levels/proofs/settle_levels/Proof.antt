@@ -1,5 +1,5 @@
 use mathlib.Core.Path.{refl}
-use Rattle.model.specs.Words.{lows, settleWord}
+use Rattle.model.specs.theory.Words.{lows, settleWord}
 use Rattle.levels.proofs.settle_levels.Statement.{statement}
 use Rattle.levels.proofs.settle_levels.Tie as tie
 use Rattle.levels.proofs.settle_levels.Reads as reads

@@ -2,7 +2,7 @@ use mathlib.Core.Path.{sym, ap, _∙_}
 use native.Mathlib.Omega.{arith}
 use Prim.Native.Nat.{min}
 use mathlib.Core.Path.{_≡_}
-use Rattle.model.specs.Words.{lows}
+use Rattle.model.specs.theory.Words.{lows}
 use Rattle.levels.proofs.Shifts.{mask-pos, lows-shifted}
 use borrow.Author.Needs.{needs}
 use Rattle.levels.proofs.transients.Statement.{statement}

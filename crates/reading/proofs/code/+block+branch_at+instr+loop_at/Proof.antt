@@ -8,7 +8,7 @@ use borrow.Author.Needs.{needs}
 use mathlib.Core.Path.{_≡_, refl, sym, subst, _∙_}
 use lib.ListN.{length}
 use Rattle.reading.specs.Reading.{ifWith, whileWith, blockWith, instrAt, blockAt}
-use Rattle.reading.specs.Steps.{Ok, instr-ok}
+use Rattle.reading.specs.theory.Steps.{Ok, instr-ok}
 use Rattle.reading.proofs.Laws.{instr-is, if-is, if-met, if-missed, while-is, while-met, while-missed, shut-one, shut-else, shut-endwhile, turn-next, turn-shut, turn-fault}
 use borrow.Fn.Kinds.{In}
 use borrow.Fn.PlainCycle.{Measures, is, falls, and}

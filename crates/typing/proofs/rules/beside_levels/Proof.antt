@@ -1,6 +1,6 @@
 use native.Mathlib.Omega.{arith}
 use mathlib.Core.Path.{ap, _∙_}
-use Rattle.model.specs.Words.{joinWords}
+use Rattle.model.specs.theory.Words.{joinWords}
 use Rattle.typing.proofs.Packed.{beside-public, beside-slots}
 use borrow.Author.Needs.{needs}
 use Rattle.typing.proofs.rules.beside_levels.Statement.{statement}

@@ -1,7 +1,7 @@
 use Prim.Native.Nat.{_<_}
 use native.Mathlib.Omega.{arith}
 use mathlib.Core.Path.{_∙_}
-use Rattle.model.specs.Words.{slot-small}
+use Rattle.model.specs.theory.Words.{slot-small}
 use Rattle.model.specs.Packing.{slot}
 use Rattle.typing.proofs.Packed.{put-slot}
 use borrow.Author.Needs.{needs}

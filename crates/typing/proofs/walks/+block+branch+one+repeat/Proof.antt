@@ -14,7 +14,7 @@ use Rattle.model.specs.Records.{Fits, Keeps, lengthOf}
 use Rattle.model.specs.Levels.{Env}
 use Rattle.format.specs.Laws.{good}
 use Rattle.model.specs.Packing.{envOf}
-use Rattle.model.specs.Whole.{NoThrees, no-threes, packed-whole, ends-map}
+use Rattle.model.specs.theory.Whole.{NoThrees, no-threes, packed-whole, ends-map}
 use Rattle.typing.specs.Walks.{viewEnd, simpleWalk, callWalk, joinWalk, backWalk, size, blockWalk}
 use Rattle.typing.specs.Envs.{viewEnv, Fit}
 use Rattle.typing.proofs.Ready.{moved}

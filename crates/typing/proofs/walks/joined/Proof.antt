@@ -4,7 +4,7 @@ use borrow.Author.Needs.{needs}
 use Rattle.model.specs.Walk.{Onward}
 use Rattle.typing.specs.Walks.{joinWalk, Close}
 use Rattle.typing.specs.Envs.{viewEnv}
-use Rattle.model.specs.Whole.{NoThrees}
+use Rattle.model.specs.theory.Whole.{NoThrees}
 use Rattle.typing.proofs.Turns.{halts, seen-end, at-shut}
 use Rattle.typing.proofs.walks.joined.Statement.{statement}
 use Rattle.typing.proofs.walks.joined.Tie as tie

@@ -12,18 +12,18 @@ use Rattle.model.specs.Packing.{packedIn}
 use Rattle.model.specs.Table.{entry}
 use Rattle.model.specs.Blocks.{Every}
 use Rattle.model.specs.Rules.{reading}
-use Rattle.model.specs.Code.{Known}
+use Rattle.model.specs.theory.Code.{Known}
 use Rattle.model.specs.declared.Sizes.{Sizes}
 use Rattle.format.specs.Format.{byte, word16, packedAt}
 use Rattle.format.specs.Head.{then, sizesAt, arrayAt, signatureAt, arraysAt, signaturesAt}
 use Rattle.format.specs.Layout.{sizesOf, signaturePlace, tableOf}
 use Rattle.format.specs.declared.To.{To}
-use Rattle.format.specs.declared.To.the-variants.{At, Fault as Off}
+use Rattle.format.specs.declared.To.the-variants.{At}
 use Rattle.reading.specs.declared.Answer.{Answer}
 use Rattle.reading.specs.declared.Answer.the-variants.{Reads, Refused}
 use Rattle.reading.specs.Reading.{functionsAt, partsAt, answered, readAt}
-use Rattle.reading.specs.Limits.{read-limits}
-use Rattle.reading.specs.Linked.{all-read, touches}
+use Rattle.reading.specs.theory.Limits.{read-limits}
+use Rattle.reading.specs.theory.Linked.{all-read, touches}
 
 module _ (t : List ℕ) where
   abbrev z : Sizes
@@ -32,7 +32,7 @@ module _ (t : List ℕ) where
   -- where the head's reading goes on
   abbrev Goes : ℕ → To → Type 0
   Goes q (At p) = p ≡ q
-  Goes q (Off n p) = Unit {0}
+  Goes q (To.Fault n p) = Unit {0}
 
   sizes-go : Goes 4 (sizesAt t 0)
   unfolding sizesAt
@@ -53,11 +53,11 @@ module _ (t : List ℕ) where
     where
       move : (p : ℕ) (w : To) → p ≡ at + 3 → Goes (p + 3 * n) w → Goes (at + 3 * suc n) w
       move p (At q) e g = omega arith
-      move p (Off a b) e g = tt
+      move p (To.Fault a b) e g = tt
 
       go : (w : To) → Goes (at + 3) w → ((p : ℕ) → Goes (p + 3 * n) (arraysAt t n p)) → Goes (at + 3 * suc n) (then w (arraysAt t n))
       go (At p) e ih = move p (arraysAt t n p) e (ih p)
-      go (Off a b) e ih = tt
+      go (To.Fault a b) e ih = tt
 
   -- the two environments of a signature at `at` have levels in the table's slots, and nothing beside them
   abbrev pub Packs : ℕ → Type 0
@@ -66,7 +66,7 @@ module _ (t : List ℕ) where
   -- a signature that n others follow: the next one is due 17 bytes on, its environments are levels, and the entry's in status byte is 0
   abbrev Signed : ℕ → ℕ → To → Type 0
   Signed n at (At p) = (p ≡ at + 17) × Packs at × (n ≡ 0 → byte t (at + 3) ≡ 0)
-  Signed n at (Off k p) = Unit {0}
+  Signed n at (To.Fault k p) = Unit {0}
 
   signature-signs : (n at : ℕ) → Signed n at (signatureAt z t n at)
   unfolding signatureAt
@@ -88,7 +88,7 @@ module _ (t : List ℕ) where
 
   abbrev AllSigned : ℕ → ℕ → To → Type 0
   AllSigned n at (At p) = (1 ≤ n → byte t (at + 17 * (n - 1) + 3) ≡ 0) × ((f : ℕ) → f < n → Packs (at + 17 * f))
-  AllSigned n at (Off k p) = Unit {0}
+  AllSigned n at (To.Fault k p) = Unit {0}
 
   signatures-sign : (n at : ℕ) → AllSigned n at (signaturesAt z t n at)
   unfolding signaturesAt
@@ -96,7 +96,7 @@ module _ (t : List ℕ) where
   signatures-sign (suc n) at = go (signatureAt z t n at) (signature-signs n at) (signatures-sign n)
     where
       more : (p : ℕ) (w : To) → p ≡ at + 17 → Packs at → (n ≡ 0 → byte t (at + 3) ≡ 0) → AllSigned n p w → AllSigned (suc n) at w
-      more p (Off a b) e s f h = tt
+      more p (To.Fault a b) e s f h = tt
       more p (At q) e s f h = (λ _. last (native.Mathlib.Decide.ℕ-discrete n 0), each)
         where
           last : Dec (n ≡ 0) → byte t (at + 17 * (suc n - 1) + 3) ≡ 0
@@ -109,7 +109,7 @@ module _ (t : List ℕ) where
 
       go : (w : To) → Signed n at w → ((p : ℕ) → AllSigned n p (signaturesAt z t n p)) → AllSigned (suc n) at (then w (signaturesAt z t n))
       go (At p) (e, s, f) ih = more p (signaturesAt z t n p) e s f (ih p)
-      go (Off a b) s ih = tt
+      go (To.Fault a b) s ih = tt
 
   -- what the signatures have: the entry's in status is unknown, and every one's environments are levels
   abbrev Signatures : Type 0
@@ -117,15 +117,15 @@ module _ (t : List ℕ) where
 
   abbrev SignedAt : To → Type 0
   SignedAt (At p) = Signatures
-  SignedAt (Off n p) = Unit {0}
+  SignedAt (To.Fault n p) = Unit {0}
 
   rest-signed : (w v : To) (f : ℕ → To) → w ≡ v → AllSigned (z .functions) (4 + 3 * z .arrays) v → SignedAt (then v f)
-  rest-signed w (Off n p) f e s = tt
+  rest-signed w (To.Fault n p) f e s = tt
   rest-signed w (At p) f e s = keep (f p)
     where
       keep : (u : To) → SignedAt u
       keep (At q) = s
-      keep (Off n q) = tt
+      keep (To.Fault n q) = tt
 
   parts-signed : SignedAt (partsAt z t)
   unfolding partsAt
@@ -136,11 +136,11 @@ module _ (t : List ℕ) where
 
       second : (p : ℕ) → p ≡ 4 → (w : To) → Goes (p + 3 * z .arrays) w → SignedAt (then w (λ q. then (signaturesAt z t (z .functions) q) (functionsAt z t (z .functions))))
       second p e (At q) g = third q (omega arith)
-      second p e (Off a b) g = tt
+      second p e (To.Fault a b) g = tt
 
       first : (w : To) → Goes 4 w → SignedAt (then w (λ p. then (arraysAt t (z .arrays) p) (λ q. then (signaturesAt z t (z .functions) q) (functionsAt z t (z .functions)))))
       first (At p) e = second p e (arraysAt t (z .arrays) p) (arrays-go (z .arrays) p)
-      first (Off a b) e = tt
+      first (To.Fault a b) e = tt
 
   abbrev AnswerSigned : Answer → Type 0
   AnswerSigned (Reads y) = Signatures
@@ -148,7 +148,7 @@ module _ (t : List ℕ) where
 
   answered-signed : (w : To) → SignedAt w → AnswerSigned (answered z w)
   answered-signed (At p) h = h
-  answered-signed (Off n p) h = tt
+  answered-signed (To.Fault n p) h = tt
 
   answer-signed : AnswerSigned (readAt t)
   unfolding readAt

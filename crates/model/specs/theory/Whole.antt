@@ -13,7 +13,7 @@ use Rattle.model.specs.Packing.{envOf, levelsIn, packedIn}
 use Rattle.model.specs.Records.{SimpleFits, Fits, Keeps, by-single}
 use Rattle.model.specs.Table.{Table}
 use Rattle.model.specs.Rules.{settle, beside, written, raised, guarded, after, afterOf, typing}
-use Rattle.model.specs.Words.{NoThree, Levelled, levels-in}
+use Rattle.model.specs.theory.Words.{NoThree, Levelled, levels-in}
 use Rattle.model.specs.Decide.{typingTests, meetsOf}
 use Rattle.model.specs.Walk.{Walking, Onward, Closed, Halt, Ending, Reached, Failed, onNext, onShut, ifWith, whileWith, instrWith, typeBlock, typeInstr}
 use Rattle.model.specs.declared.Packed.{Packed}

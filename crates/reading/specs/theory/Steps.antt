@@ -15,7 +15,6 @@ use Rattle.model.specs.declared.Record.the-variants.{Do, Call, If, Else, Endif,
 use Rattle.model.specs.declared.Walked.{Walked}
 use Rattle.model.specs.declared.Walked.the-variants.{Next, Shut, Fault}
 use Rattle.model.specs.declared.Ended.{Ended}
-use Rattle.model.specs.declared.Ended.the-variants.{Shut as Closed, Fault as Failed}
 use Rattle.format.specs.Format.{byte, word16, decodeAt}
 use Rattle.format.specs.Laws.{kindOf, Names, good}
 use Rattle.format.specs.declared.Decoded.{Decoded}
@@ -71,8 +70,8 @@ Ok z t c at (Shut p) = (at ≤ p) × Closing z t c p
 Ok z t c at (Fault n p) = Unit {0}
 
 abbrev pub OkBlock : Sizes → List ℕ → ℕ → ℕ → Ended → Type 0
-OkBlock z t c at (Closed p) = (at ≤ p) × Closing z t c p
-OkBlock z t c at (Failed n p) = Unit {0}
+OkBlock z t c at (Ended.Shut p) = (at ≤ p) × Closing z t c p
+OkBlock z t c at (Ended.Fault n p) = Unit {0}
 
 closing-in : (z : Sizes) (t : List ℕ) (c p : ℕ) → Closing z t c p → p < length t
 closing-in z t c p k = omega (arith, k .whole, length-pos (k .with))
@@ -94,8 +93,8 @@ unfolding callAt
 call-ok z t c cur at next f l k = pick-ind (Ok z t c at) (ltb f cur) (λ _. (l, k)) (λ _. tt)
 
 shut-ok : (z : Sizes) (t : List ℕ) (c at d from : ℕ) (w : Ended) (g : ℕ → Walked) → OkBlock z t d from w → ((p : ℕ) → from ≤ p → Closing z t d p → Ok z t c at (g p)) → Ok z t c at (onShut Fault w g)
-shut-ok z t c at d from (Closed p) g h hg = hg p (h .0) (h .1)
-shut-ok z t c at d from (Failed n p) g h hg = tt
+shut-ok z t c at d from (Ended.Shut p) g h hg = hg p (h .0) (h .1)
+shut-ok z t c at d from (Ended.Fault n p) g h hg = tt
 
 if-ok : (z : Sizes) (t : List ℕ) (c : ℕ) (B : ℕ → ℕ → Ended) → ((k x : ℕ) → OkBlock z t k x (B k x)) → (at next e : ℕ) → at < next → Ok z t c at (ifWith B t next e)
 unfolding ifWith
@@ -131,8 +130,8 @@ decoded-ok z t c cur B hB at (Got r n) g =
 decoded-ok z t c cur B hB at (Bad n p) g = tt
 
 weaken : (z : Sizes) (t : List ℕ) (c : ℕ) (w : Ended) (at n : ℕ) → at ≤ n → OkBlock z t c n w → OkBlock z t c at w
-weaken z t c (Closed p) at n h k = (omega (arith, k .0), k .1)
-weaken z t c (Failed a b) at n h k = tt
+weaken z t c (Ended.Shut p) at n h k = (omega (arith, k .0), k .1)
+weaken z t c (Ended.Fault a b) at n h k = tt
 
 after-ok : (z : Sizes) (t : List ℕ) (c at : ℕ) (w : Walked) (g : ℕ → Ended) → Ok z t c at w → ((n : ℕ) → OkBlock z t c n (g n)) → OkBlock z t c at (onNext w g)
 after-ok z t c at (Next n) g h hg = weaken z t c (g n) at n (omega (arith, h .0)) (hg n)
@@ -146,7 +145,7 @@ block-ok z t c f h (suc k) at = after-ok z t c at (f at) (blockWith f k) (h at) 
 
 pub instr-ok : (d cur : ℕ) (z : Sizes) (t : List ℕ) (c at : ℕ) → Ok z t c at (instrAt d cur z t c at)
 unfolding instrAt
-instr-ok zero cur z t c at = decoded-ok z t c cur (λ _ _. Failed 6 at) (λ k x. tt) at (recordAt z t c at) (record-good z t c at)
+instr-ok zero cur z t c at = decoded-ok z t c cur (λ _ _. Ended.Fault 6 at) (λ k x. tt) at (recordAt z t c at) (record-good z t c at)
 instr-ok (suc d) cur z t c at = decoded-ok z t c cur (λ k. blockWith (instrAt d cur z t k) (length t)) (λ k x. block-ok z t k (instrAt d cur z t k) (instr-ok d cur z t k) (length t) x) at (recordAt z t c at) (record-good z t c at)
 
 pub block-at-ok : (d cur : ℕ) (z : Sizes) (t : List ℕ) (c at : ℕ) → OkBlock z t c at (blockAt d cur z t c at)

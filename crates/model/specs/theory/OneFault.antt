@@ -13,9 +13,9 @@ use Rattle.model.specs.Blocks.{Rules, Types, done, one, branch, loop, Ty
 use Rattle.model.specs.Rules.{reading, typing}
 use Rattle.model.specs.Faults.{Faults, fails, past, if-guard, if-first, if-second, if-past, while-arriving, while-guard, while-body, while-end, while-past, FaultsFunction, inside as on-the-way, at-return, FirstFault}
 use Rattle.model.specs.InOrder.{chain-le}
-use Rattle.model.specs.Places.{nesting, spans}
+use Rattle.model.specs.theory.Places.{nesting, spans}
 use Rattle.model.specs.Walk.{Ending, Failed, onNext, Tests, Right, ifWith, whileWith, single, instrWith, typeBlock, inside, typeFunction, single-at, instr-at}
-use Rattle.model.specs.Passes.{else-same, walk, blocks, Faulty, below, below₁, Complete, blocks-complete, walk-complete, Passes, passes-types}
+use Rattle.model.specs.theory.Passes.{else-same, walk, blocks, Faulty, below, below₁, Complete, blocks-complete, walk-complete, Passes, passes-types}
 use Rattle.model.specs.Typing.{Read}
 use Rattle.model.specs.Decide.{numberOf, typingTests, typing-right}
 use Rattle.model.specs.declared.Packed.{Packed}

@@ -12,7 +12,7 @@ use Rattle.format.specs.Format.{byte}
 use Rattle.format.specs.Head.{then, sizesAt}
 use Rattle.format.specs.Layout.{sizesOf}
 use Rattle.format.specs.declared.To.{To}
-use Rattle.format.specs.declared.To.the-variants.{At, Fault as Off}
+use Rattle.format.specs.declared.To.the-variants.{At}
 use Rattle.reading.specs.declared.Answer.{Answer}
 use Rattle.reading.specs.declared.Answer.the-variants.{Reads, Refused}
 use Rattle.reading.specs.Reading.{partsAt, answered, readAt}
@@ -27,7 +27,7 @@ pub record Limits (z : Sizes) : Type 0 where
 module _ (t : List ℕ) where
   abbrev Kept : To → Type 0
   Kept (At p) = Limits (sizesOf t)
-  Kept (Off n p) = Unit {0}
+  Kept (To.Fault n p) = Unit {0}
 
   sizes-kept : Kept (sizesAt t 0)
   unfolding sizesAt
@@ -49,11 +49,11 @@ module _ (t : List ℕ) where
 
   kept-on : (w : To) → Limits (sizesOf t) → Kept w
   kept-on (At p) l = l
-  kept-on (Off n p) l = tt
+  kept-on (To.Fault n p) l = tt
 
   then-kept : (w : To) (g : ℕ → To) → Kept w → Kept (then w g)
   then-kept (At p) g l = kept-on (g p) l
-  then-kept (Off n p) g l = tt
+  then-kept (To.Fault n p) g l = tt
 
   parts-kept : Kept (partsAt (sizesOf t) t)
   unfolding partsAt
@@ -65,7 +65,7 @@ module _ (t : List ℕ) where
 
   answered-kept : (w : To) → length t ≤ 32768 → Kept w → AnswerKept (answered (sizesOf t) w)
   answered-kept (At p) l k = (refl, k, l)
-  answered-kept (Off n p) l k = tt
+  answered-kept (To.Fault n p) l k = tt
 
   answer-kept : AnswerKept (readAt t)
   unfolding readAt

@@ -11,7 +11,7 @@ use Rattle.model.specs.Records.{SimpleFits, Fits, by-singles}
 use Rattle.model.specs.Packing.{envOf}
 use Rattle.model.specs.Table.{Table}
 use Rattle.model.specs.Rules.{kill, guardStatus, settle, written, raised, guarded, spilled, beside, Needs, after, NeedsOf, returned, afterBy, afterOf, typingBy, typing}
-use Rattle.model.specs.Settled.{settle-mono}
+use Rattle.model.specs.theory.Settled.{settle-mono}
 use Rattle.model.specs.Blocks.{Types, done, one, branch, loop, TypesFunction}
 use Rattle.model.specs.declared.Status.{Status}
 use Rattle.model.specs.declared.Status.the-variants.{Unknown, Updated, Outdated}

@@ -23,8 +23,8 @@ use Rattle.model.specs.declared.Record.{Record}
 use Rattle.model.specs.declared.Record.the-variants.{Do, Call, If, Else, Endif, While, Endwhile, Return}
 use Rattle.model.specs.Rules.{Needs, guardStatus, callStatus, guarded, after, afterOf, typing}
 use Rattle.model.specs.Machine.{Ctl, Data, Work, halt, did, Stepped, Stop, Went, reg, holds, flagged, plain, onward, to, pop, work, fork, wrong, right, back, stepOf, step, size, Final, final, observed, afterStep, ended, run}
-use Rattle.model.specs.Alike.{top, Flag, Alike, Works, weaken, public, simple-works}
-use Rattle.model.specs.Flow.{To, Site, Flow, Flows, Frames}
+use Rattle.model.specs.theory.Alike.{top, Flag, Alike, Works, weaken, public, simple-works}
+use Rattle.model.specs.theory.Flow.{To, Site, Flow, Flows, Frames}
 
 -- ---- branches: the levels on which the runs agree can only fall
 top-fork : (mis b : Bool) → top (mis || b) ≤ top mis

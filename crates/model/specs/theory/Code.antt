@@ -14,9 +14,9 @@ use Rattle.model.specs.declared.Record.{Record}
 use Rattle.model.specs.declared.Record.the-variants.{Call, Return}
 use Rattle.model.specs.Blocks.{Rules, Every}
 use Rattle.model.specs.Rules.{reading, Lower}
-use Rattle.model.specs.Flow.{To, Site, Flow, Flows, Frames}
-use Rattle.model.specs.Functions.{Called, edge, site-called, ret-alone}
-use Rattle.model.specs.Places.{Log, All, Here, here, covers, needs, no-return, between, look, each, first, flows, Enters, FlowsAt}
+use Rattle.model.specs.theory.Flow.{To, Site, Flow, Flows, Frames}
+use Rattle.model.specs.theory.Functions.{Called, edge, site-called, ret-alone}
+use Rattle.model.specs.theory.Places.{Log, All, Here, here, covers, needs, no-return, between, look, each, first, flows, Enters, FlowsAt}
 
 -- what reading found out
 pub record Known (t : Table) : Type 0 where

@@ -16,7 +16,7 @@ use Rattle.model.specs.declared.Record.{Record}
 use Rattle.model.specs.declared.Record.the-variants.{Call, Return}
 use Rattle.model.specs.Rules.{reading}
 use Rattle.model.specs.Blocks.{Every}
-use Rattle.model.specs.Places.{spans, covers, look, between, Log}
+use Rattle.model.specs.theory.Places.{spans, covers, look, between, Log}
 
 -- q follows a CALL of f, marked m, in one of the functions
 pub record Called (t : Table) (f q : ℕ) (m : Bool) : Type 0 where

@@ -9,7 +9,7 @@ use Rattle.model.specs.declared.Record.{Record}
 use Rattle.model.specs.declared.Record.the-variants.{Call, If, Else, Endif, While, Endwhile, Return}
 use Rattle.model.specs.Blocks.{Rules, Types, done, one, branch, loop}
 use Rattle.model.specs.InOrder.{Chain, stay, on, chain-trans, past, meet}
-use Rattle.model.specs.Flow.{To, Flow}
+use Rattle.model.specs.theory.Flow.{To, Flow}
 
 abbrev pub Here : {X : Type 0} → ℕ → X → ℕ → X → Type 0
 Here p E c G = (c ≡ p) × (G ≡ E)

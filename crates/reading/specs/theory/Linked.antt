@@ -15,8 +15,8 @@ use Rattle.model.specs.Records.{lengthOf, Single, Closes, of-closing}
 use Rattle.model.specs.Table.{Table}
 use Rattle.model.specs.Blocks.{Types, done, one, branch, loop}
 use Rattle.model.specs.Rules.{reading, Lower}
-use Rattle.model.specs.Places.{nesting}
-use Rattle.model.specs.Functions.{edge}
+use Rattle.model.specs.theory.Places.{nesting}
+use Rattle.model.specs.theory.Functions.{edge}
 use Rattle.model.specs.Typing.{Read}
 use Rattle.model.specs.declared.Sizes.{Sizes}
 use Rattle.model.specs.declared.Packed.{Packed}
@@ -25,7 +25,6 @@ use Rattle.model.specs.declared.Record.the-variants.{Do, Call, If, Else, Endif,
 use Rattle.model.specs.declared.Walked.{Walked}
 use Rattle.model.specs.declared.Walked.the-variants.{Next, Shut, Fault}
 use Rattle.model.specs.declared.Ended.{Ended}
-use Rattle.model.specs.declared.Ended.the-variants.{Shut as Closed, Fault as Failed}
 use Rattle.format.specs.Format.{word16}
 use Rattle.format.specs.Head.{then, sizesAt, arraysAt, signaturesAt}
 use Rattle.format.specs.Laws.{kindOf, Names, good}
@@ -33,11 +32,11 @@ use Rattle.format.specs.Layout.{sizesOf, startOf, record-got, returnOf, tableOf
 use Rattle.format.specs.declared.Decoded.{Decoded}
 use Rattle.format.specs.declared.Decoded.the-variants.{Got, Bad}
 use Rattle.format.specs.declared.To.{To}
-use Rattle.format.specs.declared.To.the-variants.{At, Fault as Off}
+use Rattle.format.specs.declared.To.the-variants.{At}
 use Rattle.reading.specs.declared.Answer.{Answer}
 use Rattle.reading.specs.declared.Answer.the-variants.{Reads, Refused}
 use Rattle.reading.specs.Reading.{onRecord, onNext, onShut, recordAt, callAt, met, ifWith, whileWith, readWith, blockWith, instrAt, blockAt, functionAt, functionsAt, partsAt, answered, readAt}
-use Rattle.reading.specs.Steps.{Closing, GoodAt, record-good, closing}
+use Rattle.reading.specs.theory.Steps.{Closing, GoodAt, record-good, closing}
 
 -- a closing record, by its kind
 abbrev ByKind : List ℕ → ℕ → ℕ → Record → Type 0
@@ -72,16 +71,16 @@ module _ (t : List ℕ) (g : ℕ) where
   Found d c p (Fault n k) = Unit {0}
 
   abbrev pub FoundBlock : ℕ → ℕ → ℕ → Ended → Type 0
-  FoundBlock d c p (Closed q) = Block d p q × Closing z t c q
-  FoundBlock d c p (Failed n k) = Unit {0}
+  FoundBlock d c p (Ended.Shut q) = Block d p q × Closing z t c q
+  FoundBlock d c p (Ended.Fault n k) = Unit {0}
 
   abbrev Inner : ℕ → ℕ → ℕ → Ended → Type 0
-  Inner d c p (Closed q) = (b : Types T reading g p tt q tt) × (nesting T reading b < d) × Closing z t c q
-  Inner d c p (Failed n k) = Unit {0}
+  Inner d c p (Ended.Shut q) = (b : Types T reading g p tt q tt) × (nesting T reading b < d) × Closing z t c q
+  Inner d c p (Ended.Fault n k) = Unit {0}
 
   inner : (d c p : ℕ) (w : Ended) → FoundBlock d c p w → Inner (suc d) c p w
-  inner d c p (Closed q) ((b, l), k) = (b, suc-le-suc l, k)
-  inner d c p (Failed n k) h = tt
+  inner d c p (Ended.Shut q) ((b, l), k) = (b, suc-le-suc l, k)
+  inner d c p (Ended.Fault n k) h = tt
 
   block-found : (d c : ℕ) (f : ℕ → Walked) → ((p : ℕ) → Found d c p (f p)) → (k p : ℕ) → FoundBlock d c p (blockWith f k p)
   unfolding blockWith
@@ -89,8 +88,8 @@ module _ (t : List ℕ) (g : ℕ) where
   block-found d c f h (suc k) p = go (f p) (h p) (λ n. block-found d c f h k n)
     where
       map : (n : ℕ) → ((q : ℕ) → Block d n q → Block d p q) → (w : Ended) → FoundBlock d c n w → FoundBlock d c p w
-      map n m (Closed x) (b, k) = (m x b, k)
-      map n m (Failed x y) r = tt
+      map n m (Ended.Shut x) (b, k) = (m x b, k)
+      map n m (Ended.Fault x y) r = tt
 
       go : (w : Walked) → Found d c p w → ((n : ℕ) → FoundBlock d c n (blockWith f k n)) → FoundBlock d c p (onNext w (blockWith f k))
       go (Next n) m ih = map n m (blockWith f k n) (ih n)
@@ -111,13 +110,13 @@ module _ (t : List ℕ) (g : ℕ) where
       where
         second : (e₁ : ℕ) → T .rec e₁ ≡ Else (word16 t (e₁ + 1)) → e₁ ≡ e → (a : Types T reading g (p + 4) tt e₁ tt) → nesting T reading a < d → (w : Ended) → Inner d 0x22 (e₁ + 3) w
             → Found d c p (onShut Fault w λ q. met q (word16 t (e₁ + 1)) q (Next (q + 1)))
-        second e₁ j u a la (Failed x y) b = tt
-        second e₁ j u a la (Closed n) (b, lb, k) = same n (word16 t (e₁ + 1)) (λ v. Found d c p (pick v (Next (n + 1)) (Fault 5 n)))
+        second e₁ j u a la (Ended.Fault x y) b = tt
+        second e₁ j u a la (Ended.Shut n) (b, lb, k) = same n (word16 t (e₁ + 1)) (λ v. Found d c p (pick v (Next (n + 1)) (Fault 5 n)))
             (λ v q w. (branch {p = p} (rw (← u) at i) tt a (j ∙ ap (λ (x : ℕ). Else x) (sym v)) b (closing-is 0x22 n k .1 refl) (w .0), omega (arith, w .1))) (λ _. tt)
 
         first : (w : Ended) → Inner d 0x21 (p + 4) w → Found d c p (onShut Fault w λ e₁. met e₁ e e₁ (onShut Fault (B 0x22 (e₁ + 3)) λ q. met q (word16 t (e₁ + 1)) q (Next (q + 1))))
-        first (Failed x y) a = tt
-        first (Closed e₁) (a, la, k) = same e₁ e (λ v. Found d c p (pick v (onShut Fault (B 0x22 (e₁ + 3)) λ q. met q (word16 t (e₁ + 1)) q (Next (q + 1))) (Fault 5 e₁)))
+        first (Ended.Fault x y) a = tt
+        first (Ended.Shut e₁) (a, la, k) = same e₁ e (λ v. Found d c p (pick v (onShut Fault (B 0x22 (e₁ + 3)) λ q. met q (word16 t (e₁ + 1)) q (Next (q + 1))) (Fault 5 e₁)))
             (λ u. second e₁ (closing-is 0x21 e₁ k .0 refl) u a la (B 0x22 (e₁ + 3)) (h 0x22 (e₁ + 3))) (λ _. tt)
 
     while-found : (r e : ℕ) (L : Packed) → T .rec p ≡ While r e L → Found d c p (whileWith B t p (p + 11) e)
@@ -125,8 +124,8 @@ module _ (t : List ℕ) (g : ℕ) where
     while-found r e L i = body (B 0x24 (p + 11)) (h 0x24 (p + 11))
       where
         body : (w : Ended) → Inner d 0x24 (p + 11) w → Found d c p (onShut Fault w λ e₁. met e₁ e e₁ (met (word16 t (e₁ + 1)) p e₁ (Next (e₁ + 3))))
-        body (Failed x y) a = tt
-        body (Closed e₁) (a, la, k) = same e₁ e (λ v. Found d c p (pick v (met (word16 t (e₁ + 1)) p e₁ (Next (e₁ + 3))) (Fault 5 e₁)))
+        body (Ended.Fault x y) a = tt
+        body (Ended.Shut e₁) (a, la, k) = same e₁ e (λ v. Found d c p (pick v (met (word16 t (e₁ + 1)) p e₁ (Next (e₁ + 3))) (Fault 5 e₁)))
             (λ u. same (word16 t (e₁ + 1)) p (λ v. Found d c p (pick v (Next (e₁ + 3)) (Fault 5 e₁)))
             (λ v q w. (loop {p = p} (rw (← u) at i) tt tt a (closing-is 0x24 e₁ k .2 refl ∙ ap (λ (x : ℕ). Endwhile x) v) tt (w .0), omega (arith, w .1))) (λ _. tt))
             (λ _. tt)
@@ -152,12 +151,12 @@ module _ (t : List ℕ) (g : ℕ) where
 
   instr-found : (d c p : ℕ) → Found d c p (instrAt d g z t c p)
   unfolding instrAt
-  instr-found zero c p = decoded-found 0 (λ _ _. Failed 6 p) (λ _ _. tt) c p (recordAt z t c p) (record-good z t c p)
+  instr-found zero c p = decoded-found 0 (λ _ _. Ended.Fault 6 p) (λ _ _. tt) c p (recordAt z t c p) (record-good z t c p)
   instr-found (suc d) c p = decoded-found (suc d) (λ k. blockWith (instrAt d g z t k) (length t))
       (λ k x. inner d k x (blockWith (instrAt d g z t k) (length t) x) (block-found d k (instrAt d g z t k) (instr-found d k) (length t) x)) c p (recordAt z t c p) (record-good z t c p)
 
   -- a block that closes at q
-  pub block-read : (d c p q : ℕ) → blockAt d g z t c p ≡ Closed q → Block d p q × Closing z t c q
+  pub block-read : (d c p q : ℕ) → blockAt d g z t c p ≡ Ended.Shut q → Block d p q × Closing z t c q
   unfolding blockAt
   block-read d c p q e = subst (FoundBlock d c p) e (block-found d c (instrAt d g z t c) (instr-found d c) (length t) p)
 
@@ -172,18 +171,18 @@ module _ (t : List ℕ) where
 
   -- function f, from its start place, closes one byte before its end
   abbrev FunctionRead : ℕ → Type 0
-  FunctionRead f = (p : ℕ) × (blockAt 16 f zs t 0x25 (startOf zs t f) ≡ Closed p) × (p + 1 ≡ endOf f)
+  FunctionRead f = (p : ℕ) × (blockAt 16 f zs t 0x25 (startOf zs t f) ≡ Ended.Shut p) × (p + 1 ≡ endOf f)
 
   -- the reading of function i from `at` goes on at e
   abbrev One : ℕ → ℕ → To → Type 0
-  One i at (At e) = (p : ℕ) × (at ≡ startOf zs t i) × (blockAt 16 i zs t 0x25 at ≡ Closed p) × (e ≡ p + 1)
-  One i at (Off n p) = Unit {0}
+  One i at (At e) = (p : ℕ) × (at ≡ startOf zs t i) × (blockAt 16 i zs t 0x25 at ≡ Ended.Shut p) × (e ≡ p + 1)
+  One i at (To.Fault n p) = Unit {0}
 
-  shut-one : (i at : ℕ) (w : Ended) → blockAt 16 i zs t 0x25 at ≡ w → at ≡ startOf zs t i → One i at (onShut Off w (λ p. At (p + 1)))
-  shut-one i at (Closed p) e s = (p, s, e, refl)
-  shut-one i at (Failed n p) e s = tt
+  shut-one : (i at : ℕ) (w : Ended) → blockAt 16 i zs t 0x25 at ≡ w → at ≡ startOf zs t i → One i at (onShut To.Fault w (λ p. At (p + 1)))
+  shut-one i at (Ended.Shut p) e s = (p, s, e, refl)
+  shut-one i at (Ended.Fault n p) e s = tt
 
-  record-one : (i at : ℕ) (d : Decoded) → One i at (onRecord Off d (λ _ _. pick (eqb at (startOf zs t i)) (onShut Off (blockAt 16 i zs t 0x25 at) (λ p. At (p + 1))) (Off 5 at)))
+  record-one : (i at : ℕ) (d : Decoded) → One i at (onRecord To.Fault d (λ _ _. pick (eqb at (startOf zs t i)) (onShut To.Fault (blockAt 16 i zs t 0x25 at) (λ p. At (p + 1))) (To.Fault 5 at)))
   record-one i at (Got r n) = pick-ind (One i at) (eqb at (startOf zs t i)) (λ e. shut-one i at (blockAt 16 i zs t 0x25 at) refl (eqb-true at (startOf zs t i) e)) (λ _. tt)
   record-one i at (Bad n p) = tt
 
@@ -198,7 +197,7 @@ module _ (t : List ℕ) where
 
   abbrev Rest : ℕ → ℕ → To → Type 0
   Rest n at (At e) = (at ≡ beginOf n) × ((f : ℕ) → zs .functions - n ≤ f → f < zs .functions → FunctionRead f)
-  Rest n at (Off k p) = Unit {0}
+  Rest n at (To.Fault k p) = Unit {0}
 
   ends : (n : ℕ) → suc n ≤ zs .functions → beginOf n ≡ endOf (zs .functions - suc n)
   ends zero l = same (zs .functions - 1 + 1) (zs .functions) (λ b. length t ≡ pick b (length t) (startOf zs t (zs .functions - 1 + 1))) (λ _. refl) (λ h. absurd (h (omega arith)))
@@ -210,30 +209,30 @@ module _ (t : List ℕ) where
   functions-rest zero at l = pick-ind (Rest 0 at) (eqb at (length t)) (λ e. (eqb-true at (length t) e, λ f a b. absurd (omega arith))) (λ _. tt)
   functions-rest (suc n) at l = go (functionAt zs t (zs .functions - suc n) at) (function-one (zs .functions - suc n) at) (λ p. functions-rest n p (omega arith))
     where
-      more : (p q : ℕ) → at ≡ startOf zs t (zs .functions - suc n) → blockAt 16 (zs .functions - suc n) zs t 0x25 at ≡ Closed p → q ≡ p + 1 → (w : To) → Rest n q w → Rest (suc n) at w
-      more p q s b e (Off k x) r = tt
+      more : (p q : ℕ) → at ≡ startOf zs t (zs .functions - suc n) → blockAt 16 (zs .functions - suc n) zs t 0x25 at ≡ Ended.Shut p → q ≡ p + 1 → (w : To) → Rest n q w → Rest (suc n) at w
+      more p q s b e (To.Fault k x) r = tt
       more p q s b e (At x) (i, r) = (s, λ f a c. last f a c (ℕ-discrete f (zs .functions - suc n)))
         where
           last : (f : ℕ) → zs .functions - suc n ≤ f → f < zs .functions → Dec (f ≡ zs .functions - suc n) → FunctionRead f
-          last f a c (yes k) = rw k (p, subst (λ (x : ℕ). blockAt 16 (zs .functions - suc n) zs t 0x25 x ≡ Closed p) s b, sym e ∙ i ∙ ends n l)
+          last f a c (yes k) = rw k (p, subst (λ (x : ℕ). blockAt 16 (zs .functions - suc n) zs t 0x25 x ≡ Ended.Shut p) s b, sym e ∙ i ∙ ends n l)
           last f a c (no k) = r f (omega arith) c
 
       go : (w : To) → One (zs .functions - suc n) at w → ((p : ℕ) → Rest n p (functionsAt zs t n p)) → Rest (suc n) at (then w (functionsAt zs t n))
       go (At q) (p, s, b, e) ih = more p q s b e (functionsAt zs t n q) (ih q)
-      go (Off k x) w ih = tt
+      go (To.Fault k x) w ih = tt
 
   -- ---- the table
   abbrev pub AllRead : To → Type 0
   AllRead (At e) = (f : ℕ) → f < zs .functions → FunctionRead f
-  AllRead (Off n p) = Unit {0}
+  AllRead (To.Fault n p) = Unit {0}
 
   rest-all : (at : ℕ) (w : To) → Rest (zs .functions) at w → AllRead w
   rest-all at (At e) (i, r) = λ f l. r f (omega arith) l
-  rest-all at (Off n p) r = tt
+  rest-all at (To.Fault n p) r = tt
 
   then-all : (w : To) (g : ℕ → To) → ((p : ℕ) → AllRead (g p)) → AllRead (then w g)
   then-all (At p) g h = h p
-  then-all (Off n p) g h = tt
+  then-all (To.Fault n p) g h = tt
 
   parts-all : AllRead (partsAt zs t)
   unfolding partsAt
@@ -246,7 +245,7 @@ module _ (t : List ℕ) where
 
   answered-read : (w : To) → AllRead w → AnswerRead (answered zs w)
   answered-read (At p) h = (refl, h)
-  answered-read (Off n p) h = tt
+  answered-read (To.Fault n p) h = tt
 
   answer-read : AnswerRead (readAt t)
   unfolding readAt

@@ -25,7 +25,7 @@ use Rattle.model.specs.declared.Observation.the-variants.{Nothing, Addre
 use Rattle.model.specs.declared.Simple.{Simple}
 use Rattle.model.specs.declared.Simple.the-variants.{Const, Op, Select, Load, Store, Init, Update, Protect, LoadFixed, StoreFixed}
 use Rattle.model.specs.Rules.{kill, settle, written, raised, spilled, beside, Needs, after}
-use Rattle.model.specs.Settled.{unsettled}
+use Rattle.model.specs.theory.Settled.{unsettled}
 use Rattle.model.specs.Machine.{Data, wordsOf, address, Work, halt, did, reg, wordAt, holds, wrote, stored, plain, byAccess, inRange, strayed, access, work}
 
 -- the highest level on which two runs agree

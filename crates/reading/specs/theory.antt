@@ -1,0 +1,4 @@
+pub mod Steps
+pub mod Linked
+pub mod Limits
+pub mod Known
