@@ -4,3 +4,4 @@ pub mod Going
 pub mod Stepping
 pub mod Answers
 pub mod Moving
+pub mod Rows

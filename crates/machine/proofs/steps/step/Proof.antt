@@ -49,6 +49,7 @@ use Rattle.model.specs.declared.Directive.{Directive}
 use Rattle.machine.specs.declared.State.{State}
 use Rattle.machine.specs.declared.Acted.{Acted}
 use Rattle.machine.specs.declared.Took.{Took}
+use Rattle.machine.proofs.Rows.{Slice, vals, z-vals, d-vals}
 use Rattle.machine.specs.Turns.{lent, actedWith, Acts, Runnable}
 use Rattle.model.proofs.Sizes as Z
 use Rattle.model.proofs.Sizes.Laws as Z′
@@ -77,10 +78,6 @@ use Rattle.machine.proofs.steps.step as step
 use Rattle.machine.proofs.steps.step.Statement as stated
 use Rattle.machine.proofs.steps.step.Code as code
 
--- a reference to a slice of numbers
-abbrev Slice : Type 0
-Slice = RefT (List ℕ)
-
 -- of t, z, dir and seen nothing is had at exit, and the three lent slices are given up for good
 abbrev stayed : Stays (step.ended .signature .params) (step.ended .kept)
 stayed = (
@@ -99,15 +96,6 @@ stayed = (
     ),
   ),
 )
-
-abbrev vals : State → List Val
-vals = LL.vals T.the-type T′.the-laws
-
-abbrev z-vals : Sizes → List Val
-z-vals = LL.vals Z.the-type Z′.the-laws
-
-abbrev d-vals : Directive → List Val
-d-vals = EL.vals D.the-type D′.the-laws
 
 -- the last values that `act` says: of its three `&mut`
 abbrev Lasts : Type 0

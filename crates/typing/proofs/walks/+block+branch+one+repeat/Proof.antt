@@ -1,3 +1,7 @@
+-- The typing walk's cycle meets its contracts: the readers' cycle once more, with the environment carried along. What
+-- falls at each call is the nesting that is left; in the block's loop it is the bytes left. The loop's invariant says
+-- that the model's walk from the start is its walk from here on. That the environments keep to their slots (`Fit`) is
+-- what the packed words ask, and is handed on from record to record.
 use Prim.Native.Nat.{ℕ, suc, _<_, _≤_, _+_, _*_, _-_}
 use native.Mathlib.Omega.{arith}
 use mathlib.Core.Bool.{true, false}

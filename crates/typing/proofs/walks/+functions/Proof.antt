@@ -1,3 +1,4 @@
+-- The functions in table order, up to the first fault: the recursion of the model's typing of a table.
 use Prim.Native.Nat.{ℕ, _<_}
 use native.Mathlib.Omega.{arith}
 use mathlib.Core.Path.{sym, _∙_}
