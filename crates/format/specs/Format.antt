@@ -13,7 +13,7 @@ use Rattle.model.specs.declared.Simple.the-variants.{Const, Op, Select, Load, S
 use Rattle.model.specs.declared.Record.{Record}
 use Rattle.model.specs.declared.Record.the-variants.{Do, Call, If, Else, Endif, While, Endwhile, Return}
 use Rattle.format.specs.declared.Decoded.{Decoded}
-use Rattle.format.specs.declared.Decoded.the-variants.{Got, Bad}
+use Rattle.format.specs.declared.Decoded.the-variants.{Got}
 
 -- byte p; numbers are unsigned, low byte first
 abbrev pub byte : List ℕ → ℕ → ℕ
@@ -82,15 +82,15 @@ rowsOf z t at =
 
 -- the record of kind k at `at`, by its row; no row is 3
 abbrev pub byRow : List ℕ → ℕ → ℕ → List Row → Decoded
-byRow t at k [] = Bad 3 at
-byRow t at k (r ∷ rs) = pick (eqb k (r .0)) (shaped Bad t at (lengthOf (r .2)) (r .1) (Got (r .2) (at + lengthOf (r .2)))) (byRow t at k rs)
+byRow t at k [] = Decoded.Fault 3 at
+byRow t at k (r ∷ rs) = pick (eqb k (r .0)) (shaped Decoded.Fault t at (lengthOf (r .2)) (r .1) (Got (r .2) (at + lengthOf (r .2)))) (byRow t at k rs)
 
 unfoldable pub rowAt : ℕ → Sizes → List ℕ → ℕ → Decoded
 rowAt k z t at = byRow t at k (rowsOf z t at)
 
 -- a record is due at `at`
 unfoldable pub decodeAt : Sizes → List ℕ → ℕ → Decoded
-decodeAt z t at = pick (leb (length t) at) (Bad 2 at) (rowAt (byte t at) z t at)
+decodeAt z t at = pick (leb (length t) at) (Decoded.Fault 2 at) (rowAt (byte t at) z t at)
 
 -- the length of a record of kind k, by the same rows (what bytes they are over does not count); 0 where there is none
 abbrev pub lengthIn : ℕ → List Row → ℕ

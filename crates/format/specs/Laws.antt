@@ -16,7 +16,7 @@ use Rattle.model.specs.declared.Simple.the-variants.{Const, Op, Select, Load, S
 use Rattle.model.specs.declared.Record.{Record}
 use Rattle.model.specs.declared.Record.the-variants.{Do, Call, If, Else, Endif, While, Endwhile, Return}
 use Rattle.format.specs.declared.Decoded.{Decoded}
-use Rattle.format.specs.declared.Decoded.the-variants.{Got, Bad}
+use Rattle.format.specs.declared.Decoded.the-variants.{Got}
 use Rattle.format.specs.Format.{byte, word16, wordsAt, wordsFrom, Row, rowsOf, byRow, rowAt, decodeAt}
 
 -- the kind byte of a record
@@ -146,7 +146,7 @@ pub record Good (z : Sizes) (t : List ℕ) (at : ℕ) (r : Record) (n : ℕ) : T
 
 abbrev pub Sound : Sizes → List ℕ → ℕ → Decoded → Type 0
 Sound z t at (Got r n) = Good z t at r n
-Sound z t at (Bad n p) = Unit {0}
+Sound z t at (Decoded.Fault n p) = Unit {0}
 
 rows-sound : (z : Sizes) (t : List ℕ) (at k : ℕ) (rs : List Row) → k ≡ byte t at → at < length t → AllFit z t at rs → Sound z t at (byRow t at k rs)
 rows-sound z t at k [] e l f = tt

@@ -14,7 +14,7 @@ use Rattle.model.specs.declared.Packed.{Packed}
 use Rattle.model.specs.declared.Record.{Record}
 use Rattle.model.specs.declared.Record.the-variants.{Return}
 use Rattle.format.specs.declared.Decoded.{Decoded}
-use Rattle.format.specs.declared.Decoded.the-variants.{Got, Bad}
+use Rattle.format.specs.declared.Decoded.the-variants.{Got}
 use Rattle.format.specs.Format.{byte, word16, packedAt, arrayPlace, wordsFrom, decodeAt}
 use Rattle.format.specs.Laws.{good}
 
@@ -38,7 +38,7 @@ outOf z t f = packedAt t (signaturePlace z f + 10)
 -- the record at p; where none can be read, RETURN stands for it
 abbrev pub recordFrom : Decoded → Record
 recordFrom (Got r n) = r
-recordFrom (Bad n p) = Return
+recordFrom (Decoded.Fault n p) = Return
 
 unfoldable pub recordOf : Sizes → List ℕ → ℕ → Record
 recordOf z t p = recordFrom (decodeAt z t p)
@@ -61,7 +61,7 @@ pub record-got : (z : Sizes) (t : List ℕ) (p : ℕ) {r : Record} {n : ℕ} →
 unfolding recordOf
 record-got z t p e = ap recordFrom e
 
-pub record-bad : (z : Sizes) (t : List ℕ) (p : ℕ) {n q : ℕ} → decodeAt z t p ≡ Bad n q → recordOf z t p ≡ Return
+pub record-bad : (z : Sizes) (t : List ℕ) (p : ℕ) {n q : ℕ} → decodeAt z t p ≡ Decoded.Fault n q → recordOf z t p ≡ Return
 unfolding recordOf
 record-bad z t p e = ap recordFrom e
 
@@ -81,7 +81,7 @@ record-by P z t p h g = go (decodeAt z t p) refl
   where
     go : (d : Decoded) → decodeAt z t p ≡ d → P (recordFrom d)
     go (Got r n) e = g r n e
-    go (Bad n q) e = h
+    go (Decoded.Fault n q) e = h
 
 pub record-fits : (z : Sizes) (t : List ℕ) (p : ℕ) → Fits (z .registers) (z .arrays) (recordOf z t p)
 record-fits z t p = record-by (Fits (z .registers) (z .arrays)) z t p tt (λ r n e. good z t p e .fits)

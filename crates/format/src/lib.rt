@@ -14,7 +14,7 @@ ghost use Rattle.format.specs.Format.{byte, word16, word32, packedAt};
 // A record with the place after it, or a fault (2, 3 or 4) with its place.
 pub enum Decoded {
     Got(Record, usize),
-    Bad(u8, usize),
+    Fault(u8, usize),
 }
 
 // A place to go on at, or a fault.

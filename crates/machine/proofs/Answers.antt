@@ -11,7 +11,8 @@ use Rattle.model.specs.declared.Sizes.{Sizes}
 use Rattle.format.specs.Format.{wordsFrom}
 use Rattle.reading.specs.Reading.{readAt}
 use Rattle.reading.specs.declared.Answer.the-variants.{Reads, Refused as Unread}
-use Rattle.machine.specs.declared.Listed.the-variants.{Good, Wrong}
+use Rattle.machine.specs.declared.Listed.{Listed}
+use Rattle.machine.specs.declared.Listed.the-variants.{Good}
 use Rattle.machine.specs.declared.Outcome.the-variants.{Refused}
 use Rattle.machine.specs.Directives.{listAt}
 use Rattle.machine.specs.Runs.{Ran, ran, total, started, onListed, runAt}
@@ -56,7 +57,7 @@ module _ (t regs mem dirs obs : List ℕ) where
     run-fit : Fit (length regs) (z .registers) (length mem) words ≡ true → runAt t regs mem dirs obs ≡ listed
     run-fit h = run-is ∙ by-fit (eqb (length regs) (z .registers)) (eqb (length mem) words) listed (ran (Refused 15 0) regs mem obs) h
 
-    pub ran-wrong : {p : ℕ} → Fit (length regs) (z .registers) (length mem) words ≡ true → listAt dirs ≡ Wrong p → ran (Refused 16 p) regs mem obs ≡ runAt t regs mem dirs obs
+    pub ran-wrong : {p : ℕ} → Fit (length regs) (z .registers) (length mem) words ≡ true → listAt dirs ≡ Listed.Bad p → ran (Refused 16 p) regs mem obs ≡ runAt t regs mem dirs obs
     ran-wrong h l = sym (run-fit h ∙ rw l)
 
     pub ran-steps : Fit (length regs) (z .registers) (length mem) words ≡ true → listAt dirs ≡ Good → started z t regs mem dirs obs ≡ runAt t regs mem dirs obs

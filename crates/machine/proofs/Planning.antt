@@ -20,7 +20,6 @@ use Rattle.model.specs.Table.{Table}
 use Rattle.model.specs.Sites.{homeOf, site}
 use Rattle.model.specs.Machine.{Ctl, Data, reg, wordsOf, wordAt, wrote, stored, flagged, operate, Work, halt, did, Stop, Went, plain, onward, byAccess, pop, inRange, strayed, access, work, wrong, right, stepOf, step}
 use Rattle.model.specs.declared.Access.{Access}
-use Rattle.model.specs.declared.Access.the-variants.{Word as At, Bad}
 use Rattle.model.specs.declared.Directive.{Directive}
 use Rattle.model.specs.declared.Directive.the-variants.{Plain, Branch, Stray, Back}
 use Rattle.model.specs.declared.Observation.{Observation}
@@ -149,27 +148,27 @@ operate-7 op a b n0 n1 n2 n3 n4 n5 n6 = rw (ne-eqb op 0 n0, ne-eqb op 1 n1, ne-e
 
 -- ---- accesses
 module _ (t : Table) where
-  in-yes : (a i : ℕ) (d : Directive) → isPlain d ≡ true → inRange t a i d ≡ At a i
+  in-yes : (a i : ℕ) (d : Directive) → isPlain d ≡ true → inRange t a i d ≡ Access.Word a i
   in-yes a i Plain h = refl
   in-yes a i (Branch b) h = absurd (true≢false (sym h))
   in-yes a i (Stray b j) h = absurd (true≢false (sym h))
   in-yes a i (Back q) h = absurd (true≢false (sym h))
 
-  in-no : (a i : ℕ) (d : Directive) → isPlain d ≡ false → inRange t a i d ≡ Bad 22
+  in-no : (a i : ℕ) (d : Directive) → isPlain d ≡ false → inRange t a i d ≡ Access.Stop 22
   in-no a i Plain h = absurd (true≢false h)
   in-no a i (Branch b) h = refl
   in-no a i (Stray b j) h = refl
   in-no a i (Back q) h = refl
 
-  pub access-in : (a i : ℕ) (mis : Bool) (d : Directive) → i < wordsOf t a → isPlain d ≡ true → At a i ≡ access t a i mis d
+  pub access-in : (a i : ℕ) (mis : Bool) (d : Directive) → i < wordsOf t a → isPlain d ≡ true → Access.Word a i ≡ access t a i mis d
   unfolding access
   access-in a i mis d l h = rw (lt-ltb i (wordsOf t a) l, in-yes a i d h) refl
 
-  pub access-bad : (a i : ℕ) (mis : Bool) (d : Directive) → i < wordsOf t a → isPlain d ≡ false → Bad 22 ≡ access t a i mis d
+  pub access-bad : (a i : ℕ) (mis : Bool) (d : Directive) → i < wordsOf t a → isPlain d ≡ false → Access.Stop 22 ≡ access t a i mis d
   unfolding access
   access-bad a i mis d l h = rw (lt-ltb i (wordsOf t a) l, in-no a i d h) refl
 
-  pub access-out : (a i : ℕ) (mis : Bool) (d : Directive) → wordsOf t a ≤ i → mis ≡ false → Bad 24 ≡ access t a i mis d
+  pub access-out : (a i : ℕ) (mis : Bool) (d : Directive) → wordsOf t a ≤ i → mis ≡ false → Access.Stop 24 ≡ access t a i mis d
   unfolding access
   access-out a i mis d l h = rw (le-ltb i (wordsOf t a) l, h) refl
 
@@ -177,36 +176,36 @@ module _ (t : Table) where
   unfolding access
   access-stray a i mis d l h = rw (le-ltb i (wordsOf t a) l, h) refl
 
-  pub stray-in : (a i : ℕ) {d : Directive} → d ≡ Stray a i → a < t .arrays → i < wordsOf t a → At a i ≡ strayed t d
+  pub stray-in : (a i : ℕ) {d : Directive} → d ≡ Stray a i → a < t .arrays → i < wordsOf t a → Access.Word a i ≡ strayed t d
   stray-in a i e h l = rw (e, lt-ltb a (t .arrays) h, lt-ltb i (wordsOf t a) l) refl
 
-  pub stray-none : (a i : ℕ) {d : Directive} → d ≡ Stray a i → t .arrays ≤ a → Bad 25 ≡ strayed t d
+  pub stray-none : (a i : ℕ) {d : Directive} → d ≡ Stray a i → t .arrays ≤ a → Access.Stop 25 ≡ strayed t d
   stray-none a i e h = rw (e, le-ltb a (t .arrays) h) refl
 
-  pub stray-out : (a i : ℕ) {d : Directive} → d ≡ Stray a i → a < t .arrays → wordsOf t a ≤ i → Bad 25 ≡ strayed t d
+  pub stray-out : (a i : ℕ) {d : Directive} → d ≡ Stray a i → a < t .arrays → wordsOf t a ≤ i → Access.Stop 25 ≡ strayed t d
   stray-out a i e h l = rw (e, lt-ltb a (t .arrays) h, le-ltb i (wordsOf t a) l) refl
 
   pub touched : (a i : ℕ) (mis : Bool) (d : Directive) {r : Access} → access t a i mis d ≡ r → Touches t a mis r
   touched a i mis d e = subst (Touches t a mis) e (access-touches t a i mis d)
 
   -- LOAD and STORE
-  pub load-bad : (u : State) (p : Plan) (x : Data) (c : Ctl) (d a i n : ℕ) (mis : Bool) (dir : Directive) → access t a (reg x i) mis dir ≡ Bad n → p .stop ≡ n
+  pub load-bad : (u : State) (p : Plan) (x : Data) (c : Ctl) (d a i n : ℕ) (mis : Bool) (dir : Directive) → access t a (reg x i) mis dir ≡ Access.Stop n → p .stop ≡ n
       → viewPlan t u p x ≡ onward (work t (Load d a i) dir mis x) c
   load-bad u p x c d a i n mis dir e h =
       stops t u p x h (touched a (reg x i) mis dir e)
       ∙ sym (ap (λ (w : Access). onward (byAccess w (λ b j. did (wrote x d (wordAt t x b j)) (Address a (reg x i)))) c) e)
 
-  pub load-word : (x : Data) (c : Ctl) (d a i b j : ℕ) (mis : Bool) (dir : Directive) → access t a (reg x i) mis dir ≡ At b j
+  pub load-word : (x : Data) (c : Ctl) (d a i b j : ℕ) (mis : Bool) (dir : Directive) → access t a (reg x i) mis dir ≡ Access.Word b j
       → Went c (wrote x d (wordAt t x b j)) (Address a (reg x i)) ≡ onward (work t (Load d a i) dir mis x) c
   load-word x c d a i b j mis dir e = sym (ap (λ (w : Access). onward (byAccess w (λ b j. did (wrote x d (wordAt t x b j)) (Address a (reg x i)))) c) e)
 
-  pub store-bad : (u : State) (p : Plan) (x : Data) (c : Ctl) (a i s n : ℕ) (mis : Bool) (dir : Directive) → access t a (reg x i) mis dir ≡ Bad n → p .stop ≡ n
+  pub store-bad : (u : State) (p : Plan) (x : Data) (c : Ctl) (a i s n : ℕ) (mis : Bool) (dir : Directive) → access t a (reg x i) mis dir ≡ Access.Stop n → p .stop ≡ n
       → viewPlan t u p x ≡ onward (work t (Store a i s) dir mis x) c
   store-bad u p x c a i s n mis dir e h =
       stops t u p x h (touched a (reg x i) mis dir e)
       ∙ sym (ap (λ (w : Access). onward (byAccess w (λ b j. did (stored t x b j (reg x s)) (Address a (reg x i)))) c) e)
 
-  pub store-word : (x : Data) (c : Ctl) (a i s b j : ℕ) (mis : Bool) (dir : Directive) → access t a (reg x i) mis dir ≡ At b j
+  pub store-word : (x : Data) (c : Ctl) (a i s b j : ℕ) (mis : Bool) (dir : Directive) → access t a (reg x i) mis dir ≡ Access.Word b j
       → Went c (stored t x b j (reg x s)) (Address a (reg x i)) ≡ onward (work t (Store a i s) dir mis x) c
   store-word x c a i s b j mis dir e = sym (ap (λ (w : Access). onward (byAccess w (λ b j. did (stored t x b j (reg x s)) (Address a (reg x i)))) c) e)
 

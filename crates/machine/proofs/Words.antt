@@ -16,7 +16,8 @@ use Rattle.model.specs.declared.Directive.{Directive}
 use Rattle.format.specs.Format.{byte, wordsAt, wordsFrom}
 use Rattle.machine.specs.declared.Told.{Told}
 use Rattle.machine.specs.declared.Told.the-variants.{Got, Bad}
-use Rattle.machine.specs.declared.Listed.the-variants.{Good, Wrong}
+use Rattle.machine.specs.declared.Listed.{Listed}
+use Rattle.machine.specs.declared.Listed.the-variants.{Good}
 use Rattle.machine.specs.Directives.{branchAt, strayAt, backAt, directiveAt, listFrom}
 use Rattle.machine.specs.Runs.{total}
 
@@ -105,7 +106,7 @@ unfolding listFrom
 list-end d zero at l = refl
 list-end d (suc k) at l = simp le-leb
 
-pub list-bad : (d : List ℕ) (k at : ℕ) → at < length d → length d - at ≤ k → directiveAt d at ≡ Bad → listFrom k d at ≡ Wrong at
+pub list-bad : (d : List ℕ) (k at : ℕ) → at < length d → length d - at ≤ k → directiveAt d at ≡ Bad → listFrom k d at ≡ Listed.Bad at
 unfolding listFrom
 list-bad d zero at l h e = absurd (omega arith)
 list-bad d (suc k) at l h e = rw (lt-leb (length d) at l, e)

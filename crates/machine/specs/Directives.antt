@@ -12,7 +12,7 @@ use Rattle.format.specs.Format.{byte, word16, find}
 use Rattle.machine.specs.declared.Told.{Told}
 use Rattle.machine.specs.declared.Told.the-variants.{Got, Bad}
 use Rattle.machine.specs.declared.Listed.{Listed}
-use Rattle.machine.specs.declared.Listed.the-variants.{Good, Wrong}
+use Rattle.machine.specs.declared.Listed.the-variants.{Good}
 
 -- 61 branch, 1 byte 0/1; 62 stray access, array 1, index 2; 63 return, place 2. Cut short, or a branch byte over 1, is bad
 unfoldable pub branchAt : List ℕ → ℕ → Told
@@ -35,11 +35,11 @@ onTold Bad g b = b
 -- the first bad directive from `at` on; k bounds their number
 unfoldable pub listFrom : ℕ → List ℕ → ℕ → Listed
 listFrom zero d at = Good
-listFrom (suc k) d at = pick (leb (length d) at) Good (onTold (directiveAt d at) (λ _ next. listFrom k d next) (Wrong at))
+listFrom (suc k) d at = pick (leb (length d) at) Good (onTold (directiveAt d at) (λ _ next. listFrom k d next) (Listed.Bad at))
 
 -- 16: over 16,384 bytes (place 0, tested first); else the first bad directive
 unfoldable pub listAt : List ℕ → Listed
-listAt d = pick (ltb 16384 (length d)) (Wrong 0) (listFrom (length d) d 0)
+listAt d = pick (ltb 16384 (length d)) (Listed.Bad 0) (listFrom (length d) d 0)
 
 -- the directives from `at` on
 unfoldable pub directivesFrom : ℕ → List ℕ → ℕ → List Directive

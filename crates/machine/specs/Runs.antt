@@ -15,7 +15,7 @@ use Rattle.reading.specs.Reading.{readAt}
 use Rattle.reading.specs.declared.Answer.{Answer}
 use Rattle.reading.specs.declared.Answer.the-variants.{Reads, Refused as Unread}
 use Rattle.machine.specs.declared.Listed.{Listed}
-use Rattle.machine.specs.declared.Listed.the-variants.{Good, Wrong}
+use Rattle.machine.specs.declared.Listed.the-variants.{Good}
 use Rattle.machine.specs.declared.Outcome.{Outcome}
 use Rattle.machine.specs.declared.Outcome.the-variants.{Refused, Stopped}
 use Rattle.machine.specs.Directives.{listAt, directivesOf, allBytes}
@@ -41,7 +41,7 @@ started z t regs mem dirs obs =
 
 abbrev pub onListed : Listed → (ℕ → Ran) → Ran → Ran
 onListed Good bad good = good
-onListed (Wrong p) bad good = bad p
+onListed (Listed.Bad p) bad good = bad p
 
 abbrev pub onRead : Answer → (ℕ → ℕ → Ran) → (Sizes → Ran) → Ran
 onRead (Reads z) bad good = good z

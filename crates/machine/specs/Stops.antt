@@ -10,7 +10,7 @@ use Rattle.model.specs.Sites.{site}
 use Rattle.model.specs.Table.{Table}
 use Rattle.model.specs.Machine.{Ctl, Data, reg, wordsOf, Work, halt, did, Stepped, Stop, Went, plain, onward, byAccess, inRange, strayed, access, work, pass, fork, wrong, right, pop, back, stepOf, step, size, Final, final, observed, afterStep, ended, run}
 use Rattle.model.specs.declared.Access.{Access}
-use Rattle.model.specs.declared.Access.the-variants.{Word, Bad}
+use Rattle.model.specs.declared.Access.the-variants.{Word}
 use Rattle.model.specs.declared.Directive.{Directive}
 use Rattle.model.specs.declared.Directive.the-variants.{Plain, Branch, Stray, Back}
 use Rattle.model.specs.declared.Observation.{Observation}
@@ -35,7 +35,7 @@ WorkListed (did x o) = Unit {0}
 
 abbrev AccessListed : Access → Type 0
 AccessListed (Word a i) = Unit {0}
-AccessListed (Bad k) = Listed k
+AccessListed (Access.Stop k) = Listed k
 
 abbrev StepListed : Stepped → Type 0
 StepListed (Stop k) = Listed k
@@ -49,7 +49,7 @@ plain-listed (Back q) w h = at-22
 
 by-listed : (z : Access) (f : ℕ → ℕ → Work) → AccessListed z → ((a i : ℕ) → WorkListed (f a i)) → WorkListed (byAccess z f)
 by-listed (Word a i) f h g = g a i
-by-listed (Bad k) f h g = h
+by-listed (Access.Stop k) f h g = h
 
 onward-listed : (w : Work) (c : Ctl) → WorkListed w → StepListed (onward w c)
 onward-listed (halt k) c h = h

@@ -18,10 +18,10 @@ pub(crate) fn access_to(t: &[u8], z: Sizes, a: u8, i: u32, mis: bool, dir: Direc
         if is_plain(dir) {
             return Access::Word(a, index);
         }
-        return Access::Bad(22);
+        return Access::Stop(22);
     }
     if !mis {
-        return Access::Bad(24);
+        return Access::Stop(24);
     }
     stray_to(t, z, dir)
 }
@@ -30,17 +30,17 @@ fn stray_to(t: &[u8], z: Sizes, dir: Directive) -> Access
     ensures { λ r. ⌜ r ≡ strayed (tableWith z (now (t .entry))) dir ⌝ }
 {
     match dir {
-        Directive::Plain => Access::Bad(22),
-        Directive::Branch(b) => Access::Bad(22),
-        Directive::Back(p) => Access::Bad(22),
+        Directive::Plain => Access::Stop(22),
+        Directive::Branch(b) => Access::Stop(22),
+        Directive::Back(p) => Access::Stop(22),
         Directive::Stray(a, i) => {
             if z.arrays <= a {
-                return Access::Bad(25);
+                return Access::Stop(25);
             }
             if i < words_of(t, z, a) {
                 return Access::Word(a, i);
             }
-            Access::Bad(25)
+            Access::Stop(25)
         }
     }
 }

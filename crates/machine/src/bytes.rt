@@ -68,14 +68,14 @@ pub(crate) fn list_fault(d: &[u8]) -> Listed
     ensures { λ r. ⌜ r ≡ listAt (now (d .entry)) ⌝ }
 {
     if 16384 < d.len() {
-        return Listed::Wrong(0);
+        return Listed::Bad(0);
     }
     let mut at = 0;
     while at < d.len() {
         let told = directive_at(d, at);
         match told {
             Told::Bad => {
-                return Listed::Wrong(at);
+                return Listed::Bad(at);
             }
             Told::Got(x, next) => {
                 at = next;

@@ -27,7 +27,7 @@ pub enum Told {
 // A directive list without fault, or the first bad directive.
 pub enum Listed {
     Good,
-    Wrong(usize),
+    Bad(usize),
 }
 
 // The machine's state beside registers and memory. The stack never needs more than 31 places; with a 32nd, and at the front, it is
@@ -127,7 +127,7 @@ pub fn run(t: &[u8], regs: &mut [u32], mem: &mut [u32], dirs: &[u8], obs: &mut [
             }
             let l = bytes::list_fault(dirs);
             match l {
-                Listed::Wrong(p) => Outcome::Refused(16, p),
+                Listed::Bad(p) => Outcome::Refused(16, p),
                 Listed::Good => Outcome::Stopped(steps::all_steps(t, z, regs, mem, dirs, obs)),
             }
         }

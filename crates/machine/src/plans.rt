@@ -41,7 +41,7 @@ pub(crate) fn plan(t: &[u8], z: Sizes, s: State, dir: Directive, regs: &[u32], m
     let place = s.place;
     let d = records::decode(t, place, z);
     match d {
-        Decoded::Bad(n, p) => returning(t, z, s, dir),
+        Decoded::Fault(n, p) => returning(t, z, s, dir),
         Decoded::Got(r, next) => match r {
             Record::Do(x) => simple(t, z, s, next, dir, regs, mem, x),
             Record::Call { function, mark } => call(s, next, dir, layout::start_of(t, z, function)),

@@ -51,7 +51,7 @@ fn load(
     let mis = s.mis;
     let a = access_to(t, z, array, i, mis, dir);
     match a {
-        Access::Bad(n) => stop(n),
+        Access::Stop(n) => stop(n),
         Access::Word(b, j) => {
             let v = word_at(t, z, mem, b, j);
             let masked = s.masked;
@@ -83,7 +83,7 @@ fn store(
     let mis = s.mis;
     let a = access_to(t, z, array, i, mis, dir);
     match a {
-        Access::Bad(n) => stop(n),
+        Access::Stop(n) => stop(n),
         Access::Word(b, j) => {
             let v = get(regs, source as usize);
             let masked = s.masked;

@@ -12,7 +12,7 @@ use Rattle.model.specs.Records.{simpleLength}
 use Rattle.model.specs.Sites.{site}
 use Rattle.model.specs.Table.{Table, entry}
 use Rattle.model.specs.declared.Access.{Access}
-use Rattle.model.specs.declared.Access.the-variants.{Word, Bad}
+use Rattle.model.specs.declared.Access.the-variants.{Word}
 use Rattle.model.specs.declared.Directive.{Directive}
 use Rattle.model.specs.declared.Directive.the-variants.{Plain, Branch, Stray, Back}
 use Rattle.model.specs.declared.Observation.{Observation}
@@ -102,7 +102,7 @@ onward (did x o) c = Went c x o
 
 abbrev pub byAccess : Access → (ℕ → ℕ → Work) → Work
 byAccess (Word a i) f = f a i
-byAccess (Bad k) f = halt k
+byAccess (Access.Stop k) f = halt k
 
 -- the stack without its top, if the top is q
 abbrev pub pop : List ℕ → ℕ → Option (List ℕ)
@@ -113,20 +113,20 @@ module _ (t : Table) where
   -- in range it takes 60
   abbrev pub inRange : ℕ → ℕ → Directive → Access
   inRange a i Plain = Word a i
-  inRange a i (Branch b) = Bad 22
-  inRange a i (Stray b j) = Bad 22
-  inRange a i (Back q) = Bad 22
+  inRange a i (Branch b) = Access.Stop 22
+  inRange a i (Stray b j) = Access.Stop 22
+  inRange a i (Back q) = Access.Stop 22
 
   -- out of range, misspeculating: the word that 62 names
   abbrev pub strayed : Directive → Access
-  strayed Plain = Bad 22
-  strayed (Branch b) = Bad 22
-  strayed (Stray b j) = pick (ltb b (t .arrays) && ltb j (wordsOf t b)) (Word b j) (Bad 25)
-  strayed (Back q) = Bad 22
+  strayed Plain = Access.Stop 22
+  strayed (Branch b) = Access.Stop 22
+  strayed (Stray b j) = pick (ltb b (t .arrays) && ltb j (wordsOf t b)) (Word b j) (Access.Stop 25)
+  strayed (Back q) = Access.Stop 22
 
   -- word i of array a is asked for; out of range on the right path is 24, before any directive is looked at
   unfoldable pub access : ℕ → ℕ → Bool → Directive → Access
-  access a i mis dir = pick (ltb i (wordsOf t a)) (inRange a i dir) (pick mis (strayed dir) (Bad 24))
+  access a i mis dir = pick (ltb i (wordsOf t a)) (inRange a i dir) (pick mis (strayed dir) (Access.Stop 24))
 
   abbrev pub work : Simple → Directive → Bool → Data → Work
   work (Const d v) dir mis x = plain dir (did (wrote x d v) Nothing)

@@ -129,7 +129,7 @@ pub enum Observation {
 // The word that a LOAD or a STORE touches, by array and index; or the stop instead.
 pub enum Access {
     Word(u8, usize),
-    Bad(u8),
+    Stop(u8),
 }
 
 // How a block ends: at the place of the record that closes it, or with a fault.

@@ -14,7 +14,7 @@ use Rattle.model.specs.declared.Ended.{Ended}
 use Rattle.format.specs.Format.{byte, word16, find, decodeAt}
 use Rattle.format.specs.Layout.{sizesOf, startOf}
 use Rattle.format.specs.declared.Decoded.{Decoded}
-use Rattle.format.specs.declared.Decoded.the-variants.{Got, Bad}
+use Rattle.format.specs.declared.Decoded.the-variants.{Got}
 use Rattle.format.specs.declared.To.{To}
 use Rattle.format.specs.declared.To.the-variants.{At}
 use Rattle.format.specs.Head.{then, sizesAt, arraysAt, signaturesAt}
@@ -24,7 +24,7 @@ use Rattle.reading.specs.declared.Answer.the-variants.{Reads, Refused}
 -- ---- what follows an answer that is no fault; a fault is handed on
 abbrev pub onRecord : {A : Type 0} → (ℕ → ℕ → A) → Decoded → (Record → ℕ → A) → A
 onRecord bad (Got r next) g = g r next
-onRecord bad (Bad n p) g = bad n p
+onRecord bad (Decoded.Fault n p) g = bad n p
 
 abbrev pub onNext : Walked → (ℕ → Ended) → Ended
 onNext (Next p) g = g p
@@ -40,7 +40,7 @@ unfoldable pub allowed : ℕ → ℕ → Bool
 allowed c k = find k true ((0x21, eqb c 0x21) ∷ (0x22, eqb c 0x22) ∷ (0x24, eqb c 0x24) ∷ (0x25, eqb c 0x25) ∷ [])
 
 unfoldable pub recordAt : Sizes → List ℕ → ℕ → ℕ → Decoded
-recordAt z t c at = pick (leb (length t) at) (Bad 2 at) (pick (allowed c (byte t at)) (decodeAt z t at) (Bad 3 at))
+recordAt z t c at = pick (leb (length t) at) (Decoded.Fault 2 at) (pick (allowed c (byte t at)) (decodeAt z t at) (Decoded.Fault 3 at))
 
 -- a CALL of f in function `cur`: only of a lower one
 unfoldable pub callAt : ℕ → ℕ → ℕ → ℕ → Walked

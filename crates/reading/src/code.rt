@@ -27,13 +27,13 @@ fn record(t: &[u8], z: Sizes, c: u8, at: usize) -> Decoded
     ensures { λ r. ⌜ r ≡ recordAt z (now (t .entry)) c at ⌝ }
 {
     if t.len() <= at {
-        return Decoded::Bad(2, at);
+        return Decoded::Fault(2, at);
     }
     let k = t[at];
     if allowed_here(c, k) {
         return records::decode(t, at, z);
     }
-    Decoded::Bad(3, at)
+    Decoded::Fault(3, at)
 }
 
 fn call_at(cur: u8, at: usize, next: usize, function: u8) -> Walked
@@ -102,7 +102,7 @@ fn instr(t: &[u8], z: Sizes, cur: u8, c: u8, at: usize, depth: u8) -> Walked
 {
     let d = record(t, z, c, at);
     match d {
-        Decoded::Bad(n, p) => Walked::Fault(n, p),
+        Decoded::Fault(n, p) => Walked::Fault(n, p),
         Decoded::Got(r, next) => match r {
             Record::Do(s) => Walked::Next(next),
             Record::Call { function, mark } => call_at(cur, at, next, function),
@@ -142,7 +142,7 @@ fn function(t: &[u8], z: Sizes, i: u8, at: usize) -> To
 {
     let d = record(t, z, 0x25, at);
     match d {
-        Decoded::Bad(n, p) => To::Fault(n, p),
+        Decoded::Fault(n, p) => To::Fault(n, p),
         Decoded::Got(r, next) => {
             let start = layout::start_of(t, z, i);
             if at != start {

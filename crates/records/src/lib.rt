@@ -56,7 +56,7 @@ fn read_const(t: &[u8], at: usize, z: Sizes) -> Decoded
     let dest = t[at + 1];
     let value = word_at(t, at + 2);
     if z.registers <= dest {
-        return Decoded::Bad(4, at);
+        return Decoded::Fault(4, at);
     }
     Decoded::Got(Record::Do(Simple::Const { dest, value }), at + 6)
 }
@@ -70,16 +70,16 @@ fn read_op(t: &[u8], at: usize, z: Sizes) -> Decoded
     let left = t[at + 3];
     let right = t[at + 4];
     if z.registers <= dest {
-        return Decoded::Bad(4, at);
+        return Decoded::Fault(4, at);
     }
     if 8 <= op {
-        return Decoded::Bad(4, at);
+        return Decoded::Fault(4, at);
     }
     if z.registers <= left {
-        return Decoded::Bad(4, at);
+        return Decoded::Fault(4, at);
     }
     if z.registers <= right {
-        return Decoded::Bad(4, at);
+        return Decoded::Fault(4, at);
     }
     Decoded::Got(
         Record::Do(Simple::Op {
@@ -101,16 +101,16 @@ fn read_select(t: &[u8], at: usize, z: Sizes) -> Decoded
     let yes = t[at + 3];
     let no = t[at + 4];
     if z.registers <= dest {
-        return Decoded::Bad(4, at);
+        return Decoded::Fault(4, at);
     }
     if z.registers <= cond {
-        return Decoded::Bad(4, at);
+        return Decoded::Fault(4, at);
     }
     if z.registers <= yes {
-        return Decoded::Bad(4, at);
+        return Decoded::Fault(4, at);
     }
     if z.registers <= no {
-        return Decoded::Bad(4, at);
+        return Decoded::Fault(4, at);
     }
     Decoded::Got(
         Record::Do(Simple::Select {
@@ -131,13 +131,13 @@ fn read_load(t: &[u8], at: usize, z: Sizes) -> Decoded
     let array = t[at + 2];
     let index = t[at + 3];
     if z.registers <= dest {
-        return Decoded::Bad(4, at);
+        return Decoded::Fault(4, at);
     }
     if z.arrays <= array {
-        return Decoded::Bad(4, at);
+        return Decoded::Fault(4, at);
     }
     if z.registers <= index {
-        return Decoded::Bad(4, at);
+        return Decoded::Fault(4, at);
     }
     Decoded::Got(Record::Do(Simple::Load { dest, array, index }), at + 4)
 }
@@ -150,13 +150,13 @@ fn read_store(t: &[u8], at: usize, z: Sizes) -> Decoded
     let index = t[at + 2];
     let source = t[at + 3];
     if z.arrays <= array {
-        return Decoded::Bad(4, at);
+        return Decoded::Fault(4, at);
     }
     if z.registers <= index {
-        return Decoded::Bad(4, at);
+        return Decoded::Fault(4, at);
     }
     if z.registers <= source {
-        return Decoded::Bad(4, at);
+        return Decoded::Fault(4, at);
     }
     Decoded::Got(
         Record::Do(Simple::Store {
@@ -175,10 +175,10 @@ fn read_update(t: &[u8], at: usize, z: Sizes) -> Decoded
     let register = t[at + 1];
     let sense = t[at + 2];
     if z.registers <= register {
-        return Decoded::Bad(4, at);
+        return Decoded::Fault(4, at);
     }
     if 2 <= sense {
-        return Decoded::Bad(4, at);
+        return Decoded::Fault(4, at);
     }
     Decoded::Got(
         Record::Do(Simple::Update {
@@ -196,10 +196,10 @@ fn read_protect(t: &[u8], at: usize, z: Sizes) -> Decoded
     let dest = t[at + 1];
     let source = t[at + 2];
     if z.registers <= dest {
-        return Decoded::Bad(4, at);
+        return Decoded::Fault(4, at);
     }
     if z.registers <= source {
-        return Decoded::Bad(4, at);
+        return Decoded::Fault(4, at);
     }
     Decoded::Got(Record::Do(Simple::Protect { dest, source }), at + 3)
 }
@@ -211,10 +211,10 @@ fn read_call(t: &[u8], at: usize, z: Sizes) -> Decoded
     let function = t[at + 1];
     let mark = t[at + 2];
     if z.functions <= function {
-        return Decoded::Bad(4, at);
+        return Decoded::Fault(4, at);
     }
     if 2 <= mark {
-        return Decoded::Bad(4, at);
+        return Decoded::Fault(4, at);
     }
     Decoded::Got(
         Record::Call {
@@ -240,13 +240,13 @@ fn read_load_fixed(t: &[u8], at: usize, z: Sizes) -> Decoded
     let array = t[at + 2];
     let index = place_at(t, at + 3);
     if z.registers <= dest {
-        return Decoded::Bad(4, at);
+        return Decoded::Fault(4, at);
     }
     if z.arrays <= array {
-        return Decoded::Bad(4, at);
+        return Decoded::Fault(4, at);
     }
     if !has_word(t, z, array, index) {
-        return Decoded::Bad(4, at);
+        return Decoded::Fault(4, at);
     }
     Decoded::Got(
         Record::Do(Simple::LoadFixed {
@@ -266,13 +266,13 @@ fn read_store_fixed(t: &[u8], at: usize, z: Sizes) -> Decoded
     let index = place_at(t, at + 2);
     let source = t[at + 4];
     if z.arrays <= array {
-        return Decoded::Bad(4, at);
+        return Decoded::Fault(4, at);
     }
     if !has_word(t, z, array, index) {
-        return Decoded::Bad(4, at);
+        return Decoded::Fault(4, at);
     }
     if z.registers <= source {
-        return Decoded::Bad(4, at);
+        return Decoded::Fault(4, at);
     }
     Decoded::Got(
         Record::Do(Simple::StoreFixed {
@@ -291,7 +291,7 @@ fn read_if(t: &[u8], at: usize, z: Sizes) -> Decoded
     let register = t[at + 1];
     let to = place_at(t, at + 2);
     if z.registers <= register {
-        return Decoded::Bad(4, at);
+        return Decoded::Fault(4, at);
     }
     Decoded::Got(Record::If { register, to }, at + 4)
 }
@@ -312,10 +312,10 @@ fn read_while(t: &[u8], at: usize, z: Sizes) -> Decoded
     let to = place_at(t, at + 2);
     let env = packed_at(t, at + 4);
     if z.registers <= register {
-        return Decoded::Bad(4, at);
+        return Decoded::Fault(4, at);
     }
     if !packed_in(z, env) {
-        return Decoded::Bad(4, at);
+        return Decoded::Fault(4, at);
     }
     Decoded::Got(Record::While { register, to, env }, at + 11)
 }
@@ -333,15 +333,15 @@ pub fn decode(t: &[u8], at: usize, z: Sizes) -> Decoded
     ensures { λ r. ⌜ r ≡ decodeAt z (now (t .entry)) at ⌝ }
 {
     if t.len() <= at {
-        return Decoded::Bad(2, at);
+        return Decoded::Fault(2, at);
     }
     let kind = t[at];
     let n = code_length(kind);
     if n == 0 {
-        return Decoded::Bad(3, at);
+        return Decoded::Fault(3, at);
     }
     if t.len() - at < n {
-        return Decoded::Bad(2, at);
+        return Decoded::Fault(2, at);
     }
     fields(t, at, z, kind)
 }
@@ -359,7 +359,7 @@ pub fn record_at(t: &[u8], at: usize, z: Sizes) -> Met
     }
     let d = decode(t, at, z);
     match d {
-        Decoded::Bad(n, p) => Met {
+        Decoded::Fault(n, p) => Met {
             record: Record::Return,
             next: at + 1,
         },
@@ -390,6 +390,6 @@ fn fields(t: &[u8], at: usize, z: Sizes, kind: u8) -> Decoded
         0x23 => read_while(t, at, z),
         0x24 => read_endwhile(t, at, z),
         0x25 => Decoded::Got(Record::Return, at + 1),
-        _ => Decoded::Bad(3, at),
+        _ => Decoded::Fault(3, at),
     }
 }

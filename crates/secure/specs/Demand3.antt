@@ -22,7 +22,7 @@ use Rattle.reading.specs.theory.Known.{known}
 use Rattle.typing.specs.Check.{checkAt}
 use Rattle.typing.specs.Checked.{Readable, Pass, passes-exactly}
 use Rattle.machine.specs.declared.Listed.{Listed}
-use Rattle.machine.specs.declared.Listed.the-variants.{Good, Wrong}
+use Rattle.machine.specs.declared.Listed.the-variants.{Good}
 use Rattle.machine.specs.declared.Outcome.the-variants.{Refused, Stopped}
 use Rattle.machine.specs.Directives.{listAt, directivesOf, allBytes}
 use Rattle.machine.specs.Runs.{Ran, ran, total, ranFrom, started, onListed, runAt}
@@ -61,7 +61,7 @@ module _ (t regs₁ mem₁ regs₂ mem₂ dirs obs₁ obs₂ : List ℕ) where
 
   listed-same : (l : Listed) (u v : Ran) → SameRan obs₁ obs₂ u v → SameRan obs₁ obs₂ (onListed l (λ p. ran (Refused 16 p) regs₁ mem₁ obs₁) u) (onListed l (λ p. ran (Refused 16 p) regs₂ mem₂ obs₂) v)
   listed-same Good u v h = h
-  listed-same (Wrong p) u v h = (refl, refl, refl, refl)
+  listed-same (Listed.Bad p) u v h = (refl, refl, refl, refl)
 
   module _ (pass : Pass t (checkAt t)) (starts : Starts t regs₁ mem₁ regs₂ mem₂) (equal : length obs₁ ≡ length obs₂) where
     agree : Agree (tableOf t) false (record { regs = regs₁; mem = mem₁; masked = false }) (record { regs = regs₂; mem = mem₂; masked = false })

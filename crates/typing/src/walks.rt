@@ -181,7 +181,7 @@ fn one(t: &[u8], z: Sizes, at: usize, depth: u8, e: WordEnv) -> Walk
 {
     let d = records::decode(t, at, z);
     match d {
-        Decoded::Bad(n, p) => shut(at, e),
+        Decoded::Fault(n, p) => shut(at, e),
         Decoded::Got(r, next) => match r {
             Record::Do(s) => simple(z, s, at, next, e),
             Record::Call { function, mark } => call(t, z, function, mark, at, next, e),

@@ -18,7 +18,7 @@ use Rattle.model.specs.Table.{Table}
 use Rattle.model.specs.declared.Status.{Status}
 use Rattle.model.specs.declared.Status.the-variants.{Unknown, Updated, Outdated}
 use Rattle.model.specs.declared.Access.{Access}
-use Rattle.model.specs.declared.Access.the-variants.{Word, Bad}
+use Rattle.model.specs.declared.Access.the-variants.{Word}
 use Rattle.model.specs.declared.Directive.{Directive}
 use Rattle.model.specs.declared.Directive.the-variants.{Plain, Branch, Stray, Back}
 use Rattle.model.specs.declared.Observation.the-variants.{Nothing, Address}
@@ -163,11 +163,11 @@ module _ (t : Table) where
   -- an access touches a word in range; on the right path, of the array asked for. A stop is not 0
   abbrev pub Touches : ℕ → Bool → Access → Type 0
   Touches a mis (Word b j) = (mis ≡ false → b ≡ a) × (j < wordsOf t b)
-  Touches a mis (Bad k) = eqb k 0 ≡ false
+  Touches a mis (Access.Stop k) = eqb k 0 ≡ false
 
   pub access-touches : (a i : ℕ) (mis : Bool) (dir : Directive) → Touches a mis (access t a i mis dir)
   unfolding access
-  access-touches a i mis dir = test (ltb i (wordsOf t a)) (λ b. Touches a mis (pick b (inRange t a i dir) (pick mis (strayed t dir) (Bad 24)))) (λ e. near dir (ltb→lt i (wordsOf t a) (rw e tt))) (λ _. far mis dir)
+  access-touches a i mis dir = test (ltb i (wordsOf t a)) (λ b. Touches a mis (pick b (inRange t a i dir) (pick mis (strayed t dir) (Access.Stop 24)))) (λ e. near dir (ltb→lt i (wordsOf t a) (rw e tt))) (λ _. far mis dir)
     where
       near : (dir : Directive) → i < wordsOf t a → Touches a mis (inRange t a i dir)
       near Plain l = (λ _. refl, l)
@@ -175,12 +175,12 @@ module _ (t : Table) where
       near (Stray b j) l = refl
       near (Back q) l = refl
 
-      far : (mis : Bool) (dir : Directive) → Touches a mis (pick mis (strayed t dir) (Bad 24))
+      far : (mis : Bool) (dir : Directive) → Touches a mis (pick mis (strayed t dir) (Access.Stop 24))
       far false dir = refl
       far true Plain = refl
       far true (Branch b) = refl
-      far true (Stray b j) = test (ltb b (t .arrays)) (λ z. Touches a true (pick (z && ltb j (wordsOf t b)) (Word b j) (Bad 25)))
-          (λ _. test (ltb j (wordsOf t b)) (λ z. Touches a true (pick z (Word b j) (Bad 25))) (λ e. (λ q. absurd (true≢false q), ltb→lt j (wordsOf t b) (rw e tt))) (λ _. refl)) (λ _. refl)
+      far true (Stray b j) = test (ltb b (t .arrays)) (λ z. Touches a true (pick (z && ltb j (wordsOf t b)) (Word b j) (Access.Stop 25)))
+          (λ _. test (ltb j (wordsOf t b)) (λ z. Touches a true (pick z (Word b j) (Access.Stop 25))) (λ e. (λ q. absurd (true≢false q), ltb→lt j (wordsOf t b) (rw e tt))) (λ _. refl)) (λ _. refl)
       far true (Back q) = refl
 
   module _ (E : Env) (mis : Bool) (x y : Data) (h : Alike t E mis x y) (dir : Directive) where
@@ -206,7 +206,7 @@ module _ (t : Table) where
         go : (z : Access) → Touches a mis z → Works t (after (t .arrays) (Load d a i) E) mis
             (byAccess z (λ b j. did (wrote x d (wordAt t x b j)) (Address a (reg y i)))) (byAccess z (λ b j. did (wrote y d (wordAt t y b j)) (Address a (reg y i))))
         go (Word b j) f = (refl, wrote-alike t E mis x y h d _ _ _ (value b j mis refl (f .0) (f .1)))
-        go (Bad k) f = refl
+        go (Access.Stop k) f = refl
 
     store-works : (a i s : ℕ) → E .regs i ≡ 0 → Works t (after (t .arrays) (Store a i s) E) mis (work t (Store a i s) dir mis x) (work t (Store a i s) dir mis y)
     store-works a i s e = rw (public t E mis x y h i e) (go (access t a (reg y i) mis dir) (access-touches a (reg y i) mis dir))
@@ -222,7 +222,7 @@ module _ (t : Table) where
         go : (z : Access) → Touches a mis z → Works t (after (t .arrays) (Store a i s) E) mis
             (byAccess z (λ b j. did (stored t x b j (reg x s)) (Address a (reg y i)))) (byAccess z (λ b j. did (stored t y b j (reg y s)) (Address a (reg y i))))
         go (Word b j) f = (refl, stored-alike t E mis x y h others a (E .regs s) s b j (λ c. beside-kept (t .arrays) (E .regs s) c (E .arrays c)) (f .1) (source b mis refl (f .0) (in-words t b j (f .1))))
-        go (Bad k) f = refl
+        go (Access.Stop k) f = refl
 
     update-works : (r : ℕ) (s : Bool) → E .status ≡ Outdated r s → Works t (after (t .arrays) (Update r s) E) mis (work t (Update r s) dir mis x) (work t (Update r s) dir mis y)
     update-works r s e = plain-works t _ mis dir _ _ (

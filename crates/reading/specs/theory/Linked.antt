@@ -30,7 +30,7 @@ use Rattle.format.specs.Head.{then, sizesAt, arraysAt, signaturesAt}
 use Rattle.format.specs.Laws.{kindOf, Names, good}
 use Rattle.format.specs.Layout.{sizesOf, startOf, record-got, returnOf, tableOf}
 use Rattle.format.specs.declared.Decoded.{Decoded}
-use Rattle.format.specs.declared.Decoded.the-variants.{Got, Bad}
+use Rattle.format.specs.declared.Decoded.the-variants.{Got}
 use Rattle.format.specs.declared.To.{To}
 use Rattle.format.specs.declared.To.the-variants.{At}
 use Rattle.reading.specs.declared.Answer.{Answer}
@@ -147,7 +147,7 @@ module _ (t : List ℕ) (g : ℕ) where
     decoded-found : (w : Decoded) → GoodAt z t c p w → Found d c p (onRecord Fault w (readWith B g t p))
     decoded-found (Got r n) k =
         rw (good z t p (k .0) .next) (read-found r (record-got z t p (k .0)) (closing z t c p n r k))
-    decoded-found (Bad n q) k = tt
+    decoded-found (Decoded.Fault n q) k = tt
 
   instr-found : (d c p : ℕ) → Found d c p (instrAt d g z t c p)
   unfolding instrAt
@@ -184,7 +184,7 @@ module _ (t : List ℕ) where
 
   record-one : (i at : ℕ) (d : Decoded) → One i at (onRecord To.Fault d (λ _ _. pick (eqb at (startOf zs t i)) (onShut To.Fault (blockAt 16 i zs t 0x25 at) (λ p. At (p + 1))) (To.Fault 5 at)))
   record-one i at (Got r n) = pick-ind (One i at) (eqb at (startOf zs t i)) (λ e. shut-one i at (blockAt 16 i zs t 0x25 at) refl (eqb-true at (startOf zs t i) e)) (λ _. tt)
-  record-one i at (Bad n p) = tt
+  record-one i at (Decoded.Fault n p) = tt
 
   function-one : (i at : ℕ) → One i at (functionAt zs t i at)
   unfolding functionAt

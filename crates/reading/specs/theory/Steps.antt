@@ -18,7 +18,7 @@ use Rattle.model.specs.declared.Ended.{Ended}
 use Rattle.format.specs.Format.{byte, word16, decodeAt}
 use Rattle.format.specs.Laws.{kindOf, Names, good}
 use Rattle.format.specs.declared.Decoded.{Decoded}
-use Rattle.format.specs.declared.Decoded.the-variants.{Got, Bad}
+use Rattle.format.specs.declared.Decoded.the-variants.{Got}
 use Rattle.reading.specs.Reading.{onRecord, onNext, onShut, allowed, recordAt, callAt, met, ifWith, whileWith, readWith, blockWith, instrAt, blockAt}
 
 -- the record r, which closes a block, stands at p; c is its kind
@@ -33,11 +33,11 @@ pub record Closing (z : Sizes) (t : List ℕ) (c p : ℕ) : Type 0 where
 -- a record that was read: decoded, allowed
 abbrev pub GoodAt : Sizes → List ℕ → ℕ → ℕ → Decoded → Type 0
 GoodAt z t c at (Got r n) = (decodeAt z t at ≡ Got r n) × (allowed c (byte t at) ≡ true)
-GoodAt z t c at (Bad n p) = Unit {0}
+GoodAt z t c at (Decoded.Fault n p) = Unit {0}
 
 same-decoded : (z : Sizes) (t : List ℕ) (c at : ℕ) (d : Decoded) → decodeAt z t at ≡ d → allowed c (byte t at) ≡ true → GoodAt z t c at d
 same-decoded z t c at (Got r n) e a = (e, a)
-same-decoded z t c at (Bad n p) e a = tt
+same-decoded z t c at (Decoded.Fault n p) e a = tt
 
 pub record-good : (z : Sizes) (t : List ℕ) (c at : ℕ) → GoodAt z t c at (recordAt z t c at)
 unfolding recordAt
@@ -127,7 +127,7 @@ read-ok z t c cur B hB at next l k Return g = (omega arith, closing z t c at nex
 decoded-ok : (z : Sizes) (t : List ℕ) (c cur : ℕ) (B : ℕ → ℕ → Ended) → ((k x : ℕ) → OkBlock z t k x (B k x)) → (at : ℕ) (d : Decoded) → GoodAt z t c at d → Ok z t c at (onRecord Fault d (readWith B cur t at))
 decoded-ok z t c cur B hB at (Got r n) g =
     let w = good z t at (g .0) in read-ok z t c cur B hB at n (omega (arith, w .next, length-pos r)) (w .whole) r g
-decoded-ok z t c cur B hB at (Bad n p) g = tt
+decoded-ok z t c cur B hB at (Decoded.Fault n p) g = tt
 
 weaken : (z : Sizes) (t : List ℕ) (c : ℕ) (w : Ended) (at n : ℕ) → at ≤ n → OkBlock z t c n w → OkBlock z t c at w
 weaken z t c (Ended.Shut p) at n h k = (omega (arith, k .0), k .1)
