@@ -35,7 +35,7 @@ module _ (t : Table) (R : Rules) (number : Record → ℕ) where
 
   -- function f meets its first fault on the way, or at its RETURN
   pub data FaultsFunction (f : ℕ) : ℕ → ℕ → Type 0 where
-    inside : {n k : ℕ} → Faults f (t .start f) (R .enter f) n k → FaultsFunction f n k
+    on-the-way : {n k : ℕ} → Faults f (t .start f) (R .enter f) n k → FaultsFunction f n k
     at-return : {n : ℕ} (F : R .Env) → Types t R f (t .start f) (R .enter f) (t .ret f) F → t .rec (t .ret f) ≡ Return → (R .Within F (R .leave f) → ⊥) → n ≡ 14 → FaultsFunction f n (t .ret f)
 
   -- the functions before f type, and f meets the fault

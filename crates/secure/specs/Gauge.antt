@@ -12,7 +12,7 @@ use Rattle.model.specs.Table.{Table}
 use Rattle.model.specs.Blocks.{TypesFunction, done, one}
 use Rattle.model.specs.Rules.{kill, guardStatus, callStatus, settle, beside}
 use Rattle.model.specs.Before.{typingBefore}
-use Rattle.model.specs.Faults.{FirstFault, inside, past, fails}
+use Rattle.model.specs.Faults.{FirstFault, on-the-way, past, fails}
 use Rattle.model.specs.Walk.{typeBlock, typeInstr, typeFunction}
 use Rattle.model.specs.theory.Passes.{past-single}
 use Rattle.model.specs.Decide.{numberOf}
@@ -64,7 +64,7 @@ init-before = record {
   function = 0;
   lies = omega arith;
   before = λ g l. absurd (omega arith);
-  meets = inside (past tt tt (past tt tt (past tt tt (fails {E = arrived} tt transient refl))));
+  meets = on-the-way (past tt tt (past tt tt (past tt tt (fails {E = arrived} tt transient refl))));
 }
   where
     arrived : Env

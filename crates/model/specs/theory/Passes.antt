@@ -12,7 +12,7 @@ use Rattle.model.specs.Records.{lengthOf, length-pos, Single, Closes, of
 use Rattle.model.specs.Table.{Table}
 use Rattle.model.specs.Blocks.{Rules, Types, done, one, branch, loop, TypesFunction}
 use Rattle.model.specs.Rules.{reading}
-use Rattle.model.specs.Faults.{Faults, fails, past, if-guard, if-first, if-second, if-past, while-arriving, while-guard, while-body, while-end, while-past, FaultsFunction, inside as on-the-way, at-return}
+use Rattle.model.specs.Faults.{Faults, fails, past, if-guard, if-first, if-second, if-past, while-arriving, while-guard, while-body, while-end, while-past, FaultsFunction, on-the-way, at-return}
 use Rattle.model.specs.InOrder.{chain-le}
 use Rattle.model.specs.theory.Places.{nesting, spans}
 use Rattle.model.specs.Walk.{Onward, Halt, Ending, Reached, Failed, onNext, onShut, Tests, Right, ifWith, whileWith, instrWith, typeBlock, typeInstr, inside, typeFunction, shut-at, single-at, instr-at}
