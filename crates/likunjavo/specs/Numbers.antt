@@ -8,7 +8,7 @@ use Rattle.typing.specs.declared.Verdict.the-variants.{Accepted, Refused}
 use Rattle.message.specs.declared.Part.{Part}
 use Rattle.message.specs.declared.Part.the-variants.{Table}
 use Rattle.machine.specs.declared.Outcome.{Outcome}
-use Rattle.machine.specs.declared.Outcome.the-variants.{Refused as Unrun, Stopped}
+use Rattle.machine.specs.declared.Outcome.the-variants.{Stopped}
 use Rattle.machine.specs.Runs.{Ran, ran}
 
 -- number (0: the table passes), place, functions
@@ -23,7 +23,7 @@ partNumbers (Part.List a k) = 1 ∷ a ∷ k ∷ []
 
 -- number, place, steps, misspeculating, masked
 abbrev pub outcomeNumbers : Outcome → List ℕ
-outcomeNumbers (Unrun n p) = n ∷ p ∷ 0 ∷ 0 ∷ 0 ∷ []
+outcomeNumbers (Outcome.Refused n p) = n ∷ p ∷ 0 ∷ 0 ∷ 0 ∷ []
 outcomeNumbers (Stopped s) = s .number ∷ s .place ∷ s .steps ∷ pick (s .mis) 1 0 ∷ pick (s .masked) 1 0 ∷ []
 
 -- the answer, and registers, memory and observations afterwards

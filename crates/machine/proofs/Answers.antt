@@ -10,7 +10,8 @@ use Rattle.model.specs.Tests.{pick}
 use Rattle.model.specs.declared.Sizes.{Sizes}
 use Rattle.format.specs.Format.{wordsFrom}
 use Rattle.reading.specs.Reading.{readAt}
-use Rattle.reading.specs.declared.Answer.the-variants.{Reads, Refused as Unread}
+use Rattle.reading.specs.declared.Answer.{Answer}
+use Rattle.reading.specs.declared.Answer.the-variants.{Reads}
 use Rattle.machine.specs.declared.Listed.{Listed}
 use Rattle.machine.specs.declared.Listed.the-variants.{Good}
 use Rattle.machine.specs.declared.Outcome.the-variants.{Refused}
@@ -36,7 +37,7 @@ second true b h = h
 second false b h = absurd (true≢false (sym h))
 
 module _ (t regs mem dirs obs : List ℕ) where
-  pub ran-unread : {n p : ℕ} → readAt t ≡ Unread n p → ran (Refused n p) regs mem obs ≡ runAt t regs mem dirs obs
+  pub ran-unread : {n p : ℕ} → readAt t ≡ Answer.Refused n p → ran (Refused n p) regs mem obs ≡ runAt t regs mem dirs obs
   unfolding runAt
   ran-unread e = rw e
 

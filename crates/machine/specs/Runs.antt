@@ -13,7 +13,7 @@ use Rattle.format.specs.Format.{wordsFrom}
 use Rattle.format.specs.Layout.{tableWith}
 use Rattle.reading.specs.Reading.{readAt}
 use Rattle.reading.specs.declared.Answer.{Answer}
-use Rattle.reading.specs.declared.Answer.the-variants.{Reads, Refused as Unread}
+use Rattle.reading.specs.declared.Answer.the-variants.{Reads}
 use Rattle.machine.specs.declared.Listed.{Listed}
 use Rattle.machine.specs.declared.Listed.the-variants.{Good}
 use Rattle.machine.specs.declared.Outcome.{Outcome}
@@ -45,7 +45,7 @@ onListed (Listed.Bad p) bad good = bad p
 
 abbrev pub onRead : Answer → (ℕ → ℕ → Ran) → (Sizes → Ran) → Ran
 onRead (Reads z) bad good = good z
-onRead (Unread n p) bad good = bad n p
+onRead (Answer.Refused n p) bad good = bad n p
 
 unfoldable pub runAt : List ℕ → List ℕ → List ℕ → List ℕ → List ℕ → Ran
 runAt t regs mem dirs obs =
