@@ -1,4 +1,5 @@
--- Document 01, "Table layout": one record of code, over the bytes of a table; and the words of its arrays, against which an index is tested.
+-- Document 01, "Table layout": one record of code, over the bytes of a table; and the words of its arrays, against
+-- which an index is tested.
 use Prim.Native.Nat.{ℕ, zero, suc, _+_, _-_, _*_}
 use mathlib.Core.List.{List, [], _∷_}
 use mathlib.Core.Bool.{Bool}

@@ -134,7 +134,8 @@ rows-fit z t at =
       ),
     )
 
--- what is known of a decoded record: its kind, that it is in range and whole in the table, and where the next one is due
+-- what is known of a decoded record: its kind, that it is in range and whole in the table, and where the next one is
+-- due
 pub record Good (z : Sizes) (t : List ℕ) (at : ℕ) (r : Record) (n : ℕ) : Type 0 where
   pub kind : kindOf r ≡ byte t at
   pub fits : Fits (z .registers) (z .arrays) r

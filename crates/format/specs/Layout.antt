@@ -1,4 +1,5 @@
--- Document 01, "Table layout": the whole table. Sizes, the arrays, the signatures, then the functions in order, touching.
+-- Document 01, "Table layout": the whole table. Sizes, the arrays, the signatures, then the functions in order,
+-- touching.
 use Prim.Native.Nat.{ℕ, zero, suc, _+_, _-_, _*_, _<_, _≤_}
 use mathlib.Core.Path.{_≡_, refl, ap}
 use mathlib.Core.List.{List}

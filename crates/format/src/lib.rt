@@ -1,8 +1,8 @@
 // Document 01, "Table layout": the bytes of a table.
 //
-// Here: the numbers that records are made of, wherever they stand; bytes past the table's end count as 0. The crates `head`
-// (the records before the code, read), `layout` (what they say, read off once more) and `records` (one record of code) are over
-// these. The definitions of all four stand in specs/.
+// Here: the numbers that records are made of, wherever they stand; bytes past the table's end count as 0. The crates
+// `head` (the records before the code, read), `layout` (what they say, read off once more) and `records` (one record
+// of code) are over these. The definitions of all four stand in specs/.
 use model::Packed;
 use model::Record;
 use model::Sizes;

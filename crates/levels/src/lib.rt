@@ -1,6 +1,6 @@
-// Levels: 0 public, 1 transient, 2 secret; and packed words of them, sixteen slots of two bits, slot 0 lowest. The functions of two
-// words, and those of every slot, work on the whole word at once. Each contract holds for every word; what the forms that it names mean,
-// slot by slot, is proved in Rattle.model.specs.theory.Words.
+// Levels: 0 public, 1 transient, 2 secret; and packed words of them, sixteen slots of two bits, slot 0 lowest. The
+// functions of two words, and those of every slot, work on the whole word at once. Each contract holds for every
+// word; what the forms that it names mean, slot by slot, is proved in Rattle.model.specs.theory.Words.
 ghost use mathlib.Core.Path.{_≡_};
 ghost use Prim.Native.Nat.{_%_, max, min};
 ghost use lib.Dec.{ltb};

@@ -33,7 +33,8 @@ pub data Left : Type 0 where
 abbrev pub leftOf : Ran → Left
 leftOf (ran o regs mem obs) = left (outcomeNumbers o) regs mem obs
 
--- two permitted answers are equal. (Of likunjavo_check and likunjavo_shown the contract is an equation of the one lent array.)
+-- two permitted answers are equal. (Of likunjavo_check and likunjavo_shown the contract is an equation of the one
+-- lent array.)
 abbrev answerIn : Left → List ℕ
 answerIn (left a regs mem obs) = a
 

@@ -1,5 +1,5 @@
-// The check, the message and the run for programs in other languages: numbers and lent slices, nothing else. A slice is a
-// pointer and a length (bindings/c/likunjavo.h). No function asks anything of what it is lent.
+// The check, the message and the run for programs in other languages: numbers and lent slices, nothing else. A slice
+// is a pointer and a length (bindings/c/likunjavo.h). No function asks anything of what it is lent.
 use machine::Outcome;
 use message::Part;
 use typing::Verdict;
@@ -29,7 +29,8 @@ fn bit(b: bool) -> u64
     if b { 1 } else { 0 }
 }
 
-// Checks a table. The answer: the fault's number (0: the table passes), its place, and the functions of a table that passes.
+// Checks a table. The answer: the fault's number (0: the table passes), its place, and the functions of a table that
+// passes.
 #[no_mangle]
 pub extern "C" fn likunjavo_check(table: &[u8], answer: &mut [u64; 3])
     ensures { λ _. ⌜ now (answer .exit) ≡ verdictNumbers (checkAt (now (table .entry))) ⌝ }
@@ -41,8 +42,8 @@ pub extern "C" fn likunjavo_check(table: &[u8], answer: &mut [u64; 3])
     }
 }
 
-// The bytes that the message for a number at a place shows. The answer: 0 where they lie in the table, 1 in the list; where
-// they begin, and how many they are.
+// The bytes that the message for a number at a place shows. The answer: 0 where they lie in the table, 1 in the list;
+// where they begin, and how many they are.
 #[no_mangle]
 pub extern "C" fn likunjavo_shown(
     table: &[u8],

@@ -1,5 +1,5 @@
--- The run's steps, one after another: what is left of the run after some turns is the run from where they ended. And where the
--- run stands there is room on the stack.
+-- The run's steps, one after another: what is left of the run after some turns is the run from where they ended. And
+-- where the run stands there is room on the stack.
 use Prim.Native.Nat.{ℕ, zero, suc, _+_, _-_, _<_, _≤_}
 use native.Mathlib.Omega.{arith}
 use mathlib.Core.Path.{_≡_, refl, sym, ap, subst, _∙_}

@@ -1,4 +1,5 @@
--- Laws of a step's plan, as its functions use them: a plan by its stop, the directive it takes, the stack, the look for a CALL.
+-- Laws of a step's plan, as its functions use them: a plan by its stop, the directive it takes, the stack, the look
+-- for a CALL.
 use Prim.Native.Nat.{ℕ, zero, suc, _+_, _-_, _*_, _%_, _^_, _<_, _≤_}
 use native.Mathlib.Omega.{arith}
 use native.Mathlib.Numerals.{sub-one}

@@ -1,4 +1,5 @@
--- What the two walks by hand, `step` and `lent_step`, share: a slice that is lent, and the machine values of what they hand on.
+-- What the two walks by hand, `step` and `lent_step`, share: a slice that is lent, and the machine values of what
+-- they hand on.
 use Prim.Native.Nat.{ℕ}
 use mathlib.Core.List.{List}
 use mir.Val.{Val}

@@ -127,7 +127,8 @@ module _ (z : Sizes) (t : List ℕ) (s : State) where
       },
     )
 
-    -- 20: the list is used up; or from here on it does not read, which it does where it was tested before the first step
+    -- 20: the list is used up; or from here on it does not read, which it does where it was tested before the first
+    -- step
     pub turn-used : (r : Turn) → (s .place ≡ length t - 1 → ⊥) → length dirs ≤ at → r .stop ≡ 20 → r .state ≡ s → Turns z t s dirs at seen a r a
     turn-used r n l = used r n (λ j. directives-end j dirs at l)
 

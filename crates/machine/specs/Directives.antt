@@ -14,7 +14,8 @@ use Rattle.machine.specs.declared.Told.the-variants.{Got, Bad}
 use Rattle.machine.specs.declared.Listed.{Listed}
 use Rattle.machine.specs.declared.Listed.the-variants.{Good}
 
--- 61 branch, 1 byte 0/1; 62 stray access, array 1, index 2; 63 return, place 2. Cut short, or a branch byte over 1, is bad
+-- 61 branch, 1 byte 0/1; 62 stray access, array 1, index 2; 63 return, place 2. Cut short, or a branch byte over 1,
+-- is bad
 unfoldable pub branchAt : List ℕ → ℕ → Told
 branchAt d at = pick (ltb (length d - at) 2) Bad (pick (ltb (byte d (at + 1)) 2) (Got (Branch (eqb (byte d (at + 1)) 1)) (at + 2)) Bad)
 

@@ -1,6 +1,6 @@
--- For every table that reads, typed or not, and every list of directives: wherever a run ends, and so after each of its steps, it
--- stands at the start of a record of code, with at most 31 places on the stack and none at the entry's RETURN; and it stops only
--- for a listed reason.
+-- For every table that reads, typed or not, and every list of directives: wherever a run ends, and so after each of
+-- its steps, it stands at the start of a record of code, with at most 31 places on the stack and none at the entry's
+-- RETURN; and it stops only for a listed reason.
 use Prim.Native.Nat.{ℕ, _-_, _<_, _≤_}
 use native.Mathlib.Omega.{arith}
 use mathlib.Core.Path.{_≡_, refl, sym, _∙_}

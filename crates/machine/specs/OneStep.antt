@@ -1,5 +1,5 @@
--- The contract of the step fixes every field of the state afterwards, every lent word and what it answers: whatever two steps meet
--- it from the same state, they leave the same.
+-- The contract of the step fixes every field of the state afterwards, every lent word and what it answers: whatever
+-- two steps meet it from the same state, they leave the same.
 use Prim.Native.Nat.{ℕ, _+_, _-_}
 use native.Mathlib.Omega.{arith}
 use native.Mathlib.Decide.{ℕ-discrete}

@@ -1,5 +1,5 @@
--- Document 01, a run over bytes: refusals 1 to 9, 15, 16 leave everything as lent; else the model's run of the table that the
--- bytes stand for, its observations as bytes at the start of the buffer.
+-- Document 01, a run over bytes: refusals 1 to 9, 15, 16 leave everything as lent; else the model's run of the table
+-- that the bytes stand for, its observations as bytes at the start of the buffer.
 use Prim.Native.Nat.{ℕ, _+_}
 use mathlib.Core.Bool.{false}
 use mathlib.Core.List.{List, [], _∷_}

@@ -31,7 +31,8 @@ pub record Lent : Type 0 where
 abbrev pub lent : List ℕ → List ℕ → List ℕ → Lent
 lent r m o = record { regs = r; mem = m; obs = o }
 
--- what a run has seen to: the table has been read, memory is of its size, at a CALL the stack has room, and the entry's RETURN is the table's last byte
+-- what a run has seen to: the table has been read, memory is of its size, at a CALL the stack has room, and the
+-- entry's RETURN is the table's last byte
 pub record Runnable (z : Sizes) (t : List ℕ) (s : State) (mem : List ℕ) : Type 0 where
   pub short : length t ≤ 32768
   pub room : (f : ℕ) (m : Bool) → recordOf z t (s .place) ≡ Call f m → s .depth < 31

@@ -30,8 +30,8 @@ pub enum Listed {
     Bad(usize),
 }
 
-// The machine's state beside registers and memory. The stack never needs more than 31 places; with a 32nd, and at the front, it is
-// copied as four whole vector registers. So the state stands first where it is a field, too.
+// The machine's state beside registers and memory. The stack never needs more than 31 places; with a 32nd, and at the
+// front, it is copied as four whole vector registers. So the state stands first where it is a field, too.
 pub struct State {
     pub stack: [u16; 32],
     pub place: usize,
@@ -113,8 +113,8 @@ pub enum Outcome {
     Stopped(Stop),
 }
 
-// Runs a table over lent registers and memory, and writes observations into a lent buffer. Every refusal leaves all three as
-// they were; a run leaves exactly the effects of the steps it took.
+// Runs a table over lent registers and memory, and writes observations into a lent buffer. Every refusal leaves all
+// three as they were; a run leaves exactly the effects of the steps it took.
 pub fn run(t: &[u8], regs: &mut [u32], mem: &mut [u32], dirs: &[u8], obs: &mut [u8]) -> Outcome
     ensures { λ r. ⌜ ran r (now (regs .exit)) (now (mem .exit)) (now (obs .exit)) ≡ runAt (now (t .entry)) (now (regs .entry)) (now (mem .entry)) (now (dirs .entry)) (now (obs .entry)) ⌝ }
 {

@@ -1,5 +1,5 @@
-// What one step would do, worked out on plain values before anything changes: the stop, or where it leads, the one word that
-// changes, and the observation. The stack's array is looked at and never copied.
+// What one step would do, worked out on plain values before anything changes: the stop, or where it leads, the one
+// word that changes, and the observation. The stack's array is looked at and never copied.
 use crate::Effect;
 use crate::Plan;
 use crate::State;

@@ -56,7 +56,8 @@ fn mark_of(r: Record, function: u8) -> Site
     }
 }
 
-// The CALL of a function that q follows: the code is gone through record by record, since its bytes may stand inside others too.
+// The CALL of a function that q follows: the code is gone through record by record, since its bytes may stand inside
+// others too.
 fn site_of(t: &[u8], z: Sizes, function: u8, q: usize) -> Site
     ensures { λ r. ⌜ markOf r ≡ markIn (code (tableWith z (now (t .entry)))) function q ⌝ }
 {

@@ -1,5 +1,6 @@
-// The run's steps: each uses one directive and writes one observation, until a stop. Tested in the order 21, 20, 23, 24, 22,
-// 25, 26, before anything changes: a plan is made first, and room for its observation looked for, before it is carried out.
+// The run's steps: each uses one directive and writes one observation, until a stop. Tested in the order 21, 20, 23,
+// 24, 22, 25, 26, before anything changes: a plan is made first, and room for its observation looked for, before it
+// is carried out.
 use crate::Acted;
 use crate::Outcome;
 use crate::Plan;
@@ -118,8 +119,8 @@ fn acted(k: Took, state: State) -> Acted
     }
 }
 
-// 01: "One step is given the machine's state by reference and updates it there." The body and the next one's are proved by
-// hand, by a walk: a change to either is a change to its proof file.
+// 01: "One step is given the machine's state by reference and updates it there." The body and the next one's are
+// proved by hand, by a walk: a change to either is a change to its proof file.
 fn step(
     s: &mut State,
     t: &[u8],

@@ -14,7 +14,8 @@ use Rattle.message.specs.declared.Part.the-variants.{Table}
 abbrev pub kindLength : ℕ → ℕ
 kindLength k = find k (codeLength k) ((1, 4) ∷ (2, 3) ∷ (3, 17) ∷ [])
 
--- the bytes of a directive, by its kind: 60 plain, 61 branch, 62 stray access, 63 return. Of an unknown one only the kind shows
+-- the bytes of a directive, by its kind: 60 plain, 61 branch, 62 stray access, 63 return. Of an unknown one only the
+-- kind shows
 abbrev pub directiveLength : ℕ → ℕ
 directiveLength k = find k 1 ((0x60, 1) ∷ (0x61, 2) ∷ (0x62, 4) ∷ (0x63, 3) ∷ [])
 
@@ -26,8 +27,8 @@ tableCount t n p = find n (kindLength (byte t p)) ((2, length t - p) ∷ (3, 1) 
 abbrev pub clipped : (ℕ → ℕ → Part) → List ℕ → ℕ → ℕ → Part
 clipped in-which s p k = in-which (min p (length s)) (min k (length s - p))
 
--- number n at place p: 2 to 14 lie in the table, 16 in the list unless it is over-long. All else (1, 15, a pass, a stop)
--- shows the empty part at the table's start
+-- number n at place p: 2 to 14 lie in the table, 16 in the list unless it is over-long. All else (1, 15, a pass, a
+-- stop) shows the empty part at the table's start
 unfoldable pub partOf : List ℕ → List ℕ → ℕ → ℕ → Part
 partOf t d n p =
     pick (all (leb 2 n ∷ leb n 14 ∷ [])) (clipped Table t p (tableCount t n p))

@@ -95,8 +95,8 @@ fn slice_of<'a>(s: &'a [u8], start: usize, count: usize) -> &'a [u8]
     &s[start..start + count]
 }
 
-// The bytes that number and place show: a part of one of the two lent slices. Which one, and where it begins, the contract
-// says by the pointer.
+// The bytes that number and place show: a part of one of the two lent slices. Which one, and where it begins, the
+// contract says by the pointer.
 pub fn shown<'a>(table: &'a [u8], list: &'a [u8], number: u8, place: usize) -> &'a [u8]
     ensures in_table { λ r. ⌜ ((a k : ℕ) → partOf (now (table .entry)) (now (list .entry)) number place ≡ Part.Table a k →
         (r .ptr .0 ≡ table .entry .ptr .0) × (r .ptr .1 ≡ table .entry .ptr .1 + a) × (now r ≡ take k (drop a (now (table .entry))))) ⌝ }

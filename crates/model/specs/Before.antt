@@ -1,5 +1,5 @@
--- The rules as they were before order 3, for one statement: tables that passed before still pass. Only it and its example
--- (secure's Gauge) speak of them.
+-- The rules as they were before order 3, for one statement: tables that passed before still pass. Only it and its
+-- example (secure's Gauge) speak of them.
 use Prim.Native.Nat.{ℕ}
 use native.Mathlib.Omega.{arith}
 use mathlib.Core.Path.{refl}

@@ -1,5 +1,5 @@
--- The first fault of a function (10 to 14): records are typed in table order, and the first that asks too much is at fault.
--- One constructor for each way on to it; it stands beside Types, and mentions no checker.
+-- The first fault of a function (10 to 14): records are typed in table order, and the first that asks too much is at
+-- fault. One constructor for each way on to it; it stands beside Types, and mentions no checker.
 use Prim.Native.Nat.{ℕ, _+_, _<_}
 use mathlib.Core.Path.{_≡_}
 use mathlib.Core.Bool.{true, false}

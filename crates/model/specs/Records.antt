@@ -113,7 +113,8 @@ Fits n m (While r e L) = r < n
 Fits n m (Endwhile w) = Unit {0}
 Fits n m Return = Unit {0}
 
--- a CALL is of one of k functions, and a loop environment has levels in the table's slots and nothing beside them (fault 4 too)
+-- a CALL is of one of k functions, and a loop environment has levels in the table's slots and nothing beside them
+-- (fault 4 too)
 abbrev pub Keeps : ℕ → ℕ → ℕ → Record → Type 0
 Keeps n m k (Do s) = Unit {0}
 Keeps n m k (Call f b) = f < k

@@ -109,7 +109,8 @@ abbrev pub returned : Env → Bool → Env → Env
 returned out mark E = record { status = callStatus mark (out .status); regs = out .regs; arrays = out .arrays }
 
 module _ (t : Table) where
-  -- what a record asks. One that opens or closes a block asks nothing here, and changes nothing: its rule is that of blocks
+  -- what a record asks. One that opens or closes a block asks nothing here, and changes nothing: its rule is that of
+  -- blocks
   abbrev pub NeedsOf : Record → Env → Type 0
   NeedsOf i E = bySingle (λ s. Needs s E) (λ f m. Within (t .registers) (t .arrays) E (t .enter f)) (Unit {0}) i
 

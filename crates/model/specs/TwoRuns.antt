@@ -1,6 +1,6 @@
--- Demand 3 over tables that have been read: two runs of a typed table, from starts that agree on what the entry's in-environment
--- calls public or transient, observe alike and stop alike. Stated for any start, misspeculating or not (order 11 asks for both),
--- and with what the two runs still agree on where they end.
+-- Demand 3 over tables that have been read: two runs of a typed table, from starts that agree on what the entry's
+-- in-environment calls public or transient, observe alike and stop alike. Stated for any start, misspeculating or not
+-- (order 11 asks for both), and with what the two runs still agree on where they end.
 use Prim.Native.Nat.{ℕ, _≤_, _<_}
 use native.Mathlib.Omega.{arith}
 use native.Mathlib.Decide.{decLt}
@@ -16,8 +16,8 @@ use Rattle.model.specs.theory.Secure.{Related, SameEnd, arrive, run-same
 use Rattle.model.specs.theory.Code.{Known, At, enters-at, flows-at, ends-within}
 use Rattle.model.specs.declared.Directive.{Directive}
 
--- both of the table's sizes, equal in every register and array whose level on the way in is at most the highest that counts:
--- transient on the right path, public while misspeculating
+-- both of the table's sizes, equal in every register and array whose level on the way in is at most the highest that
+-- counts: transient on the right path, public while misspeculating
 pub record Agree (t : Table) (mis : Bool) (x y : Data) : Type 0 where
   pub wide₁ : length (x .regs) ≡ t .registers
   pub wide₂ : length (y .regs) ≡ t .registers
@@ -67,6 +67,7 @@ module _ (t : Table) (reads : Known t) (typed : Typed t) where
   pub secure : (mis : Bool) (x y : Data) → Agree t mis x y → (ds : List Directive) (room : ℕ) → SameShown (run t ds room (startCtl t mis) x) (run t ds room (startCtl t mis) y)
   secure mis x y h ds room = shown (run t ds room (startCtl t mis) x) (run t ds room (startCtl t mis) y) (both-runs mis x y h ds room)
 
-  -- and where they end at the entry's RETURN they agree on what the entry's out calls public, and transient if they do not misspeculate
+  -- and where they end at the entry's RETURN they agree on what the entry's out calls public, and transient if they
+  -- do not misspeculate
   pub secure-out : (mis : Bool) (x y : Data) → Agree t mis x y → (ds : List Directive) (room : ℕ) → SameOut t (run t ds room (startCtl t mis) x) (run t ds room (startCtl t mis) y)
   secure-out mis x y h ds room = left (run t ds room (startCtl t mis) x) (run t ds room (startCtl t mis) y) (both-runs mis x y h ds room)

@@ -1,5 +1,6 @@
--- The typing walk: from a place and an environment, record by record in table order, to the end of the block or the first fault.
--- It computes; that what it passes is what Types types, and that its faults are first faults, stands in Passes.
+-- The typing walk: from a place and an environment, record by record in table order, to the end of the block or the
+-- first fault. It computes; that what it passes is what Types types, and that its faults are first faults, stands in
+-- Passes.
 use Prim.Native.Nat.{ℕ, zero, suc, _+_}
 use mathlib.Core.Path.{_≡_, refl}
 use mathlib.Core.Bool.{Bool, true, false}

@@ -97,8 +97,8 @@ pub enum Record {
     Return,
 }
 
-// How far a walk over the records of a block came: past one record, or one block with its ends; to the record that closes
-// the block; or to a fault.
+// How far a walk over the records of a block came: past one record, or one block with its ends; to the record that
+// closes the block; or to a fault.
 pub enum Walked {
     Next(usize),
     Shut(usize),

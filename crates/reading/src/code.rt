@@ -1,5 +1,5 @@
-// The code: functions, blocks, instructions. A block holds instructions and an instruction may hold blocks, so their readers
-// call each other. What falls: the nesting that is left, from 16, and within a block the bytes left.
+// The code: functions, blocks, instructions. A block holds instructions and an instruction may hold blocks, so their
+// readers call each other. What falls: the nesting that is left, from 16, and within a block the bytes left.
 use format::Decoded;
 use format::To;
 use model::Ended;
@@ -136,7 +136,8 @@ fn block(t: &[u8], z: Sizes, cur: u8, c: u8, from: usize, depth: u8) -> Ended
     }
 }
 
-// Function i, which begins at `at`. Its first record is looked at twice: its own 3, 2 and 4 come before its start place.
+// Function i, which begins at `at`. Its first record is looked at twice: its own 3, 2 and 4 come before its start
+// place.
 fn function(t: &[u8], z: Sizes, i: u8, at: usize) -> To
     ensures { λ r. ⌜ r ≡ functionAt z (now (t .entry)) i at ⌝ }
 {

@@ -346,8 +346,8 @@ pub fn decode(t: &[u8], at: usize, z: Sizes) -> Decoded
     fields(t, at, z, kind)
 }
 
-// The record at a place, for loops over the code. Where none can be read, RETURN stands for it; from the table's end on, the place
-// itself is the next.
+// The record at a place, for loops over the code. Where none can be read, RETURN stands for it; from the table's end
+// on, the place itself is the next.
 pub fn record_at(t: &[u8], at: usize, z: Sizes) -> Met
     ensures { λ r. ⌜ (r .record ≡ recordOf z (now (t .entry)) at) × (r .next ≡ nextOf z (now (t .entry)) at) ⌝ }
 {

@@ -1,5 +1,5 @@
-// Bytes and decimal numbers, written into a lent buffer. What has no room in it is left out, and the place to go on at is
-// counted all the same.
+// Bytes and decimal numbers, written into a lent buffer. What has no room in it is left out, and the place to go on
+// at is counted all the same.
 ghost use mathlib.Core.Path.{_≡_};
 ghost use Prim.Native.Nat.{_+_, _≤_};
 ghost use lib.ListN.{length, set};

@@ -1,9 +1,9 @@
-// Runs each case of standard input and prints it. A case is five parts and a byte. A part is its length in two bytes, low byte
-// first, and so many bytes: the name, the table, the list, the registers, the memory (these two in words, low byte first). The byte
-// is the room for observations.
+// Runs each case of standard input and prints it. A case is five parts and a byte. A part is its length in two bytes,
+// low byte first, and so many bytes: the name, the table, the list, the registers, the memory (these two in words,
+// low byte first). The byte is the room for observations.
 //
-// The files stdin and stdout beside src/ are made by the second implementation, tests/second/src/bin/run_examples.rs: the cases,
-// and what its own machine does with them.
+// The files stdin and stdout beside src/ are made by the second implementation, tests/second/src/bin/run_examples.rs:
+// the cases, and what its own machine does with them.
 mod numbers;
 mod show;
 

@@ -1,9 +1,11 @@
--- DEMAND 3. Take a table that passes, and two starts at its entry function, neither misspeculating, both of the sizes the table
--- gives, with equal values in every register and array that the entry signature calls public or transient on the way in. Secrets
--- may differ. Under one same list of directives, wrong branches, wrong returns and stray accesses included, with observation
--- buffers of equal length, both runs record the same observations and stop after the same number of steps for the same reason.
+-- DEMAND 3. Take a table that passes, and two starts at its entry function, neither misspeculating, both of the sizes
+-- the table gives, with equal values in every register and array that the entry signature calls public or transient
+-- on the way in. Secrets may differ. Under one same list of directives, wrong branches, wrong returns and stray
+-- accesses included, with observation buffers of equal length, both runs record the same observations and stop after
+-- the same number of steps for the same reason.
 --
--- checkAt is what typing::check answers, runAt what machine::run answers and leaves behind: the definitions that their contracts cite.
+-- checkAt is what typing::check answers, runAt what machine::run answers and leaves behind: the definitions that
+-- their contracts cite.
 use Prim.Native.Nat.{ℕ, _+_, _≤_, _<_}
 use mathlib.Core.Path.{_≡_, refl, sym, ap, subst, _∙_}
 use mathlib.Core.Bool.{false}
@@ -39,8 +41,9 @@ pub record Starts (t : List ℕ) (regs₁ mem₁ regs₂ mem₂ : List ℕ) : Ty
   pub mem : (a i : ℕ) → i < wordsOf (tableOf t) a → (tableOf t) .enter (entry (tableOf t)) .arrays a ≤ 1
       → getD mem₁ (address (tableOf t) a i) 0 ≡ getD mem₂ (address (tableOf t) a i) 0
 
--- ---- THE CONCLUSION. Two answers, with what is left of the lent buffers obs₁ and obs₂: both refuse alike and leave all as lent;
--- or both stop for the same reason, at the same place, after the same number of steps, having written the same bytes
+-- ---- THE CONCLUSION
+-- Two answers, with what is left of the lent buffers obs₁ and obs₂: both refuse alike and leave all as lent; or both
+-- stop for the same reason, at the same place, after the same number of steps, having written the same bytes
 abbrev pub SameRan : (obs₁ obs₂ : List ℕ) → Ran → Ran → Type 0
 SameRan obs₁ obs₂ (ran (Refused n p) r₁ m₁ o₁) (ran (Refused k q) r₂ m₂ o₂) = (n ≡ k) × (p ≡ q) × (o₁ ≡ obs₁) × (o₂ ≡ obs₂)
 SameRan obs₁ obs₂ (ran (Refused n p) r₁ m₁ o₁) (ran (Stopped s) r₂ m₂ o₂) = ⊥

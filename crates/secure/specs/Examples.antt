@@ -1,6 +1,7 @@
--- Demand 3 is not empty: a table that passes and really speculates. A marked and an unmarked CALL, both blocks of an IF, a loop,
--- INIT, UPDATE, PROTECT; run under wrong branches, a wrong return into another caller, a stray load and a stray store, each from two
--- starts with different secrets. What is loaded astray is a secret, and differs; what is observed does not.
+-- Demand 3 is not empty: a table that passes and really speculates. A marked and an unmarked CALL, both blocks of an
+-- IF, a loop, INIT, UPDATE, PROTECT; run under wrong branches, a wrong return into another caller, a stray load and a
+-- stray store, each from two starts with different secrets. What is loaded astray is a secret, and differs; what is
+-- observed does not.
 use Prim.Native.Nat.{ℕ}
 use mathlib.Core.Path.{_≡_, refl}
 use mathlib.Core.Bool.{true}
@@ -27,10 +28,10 @@ use Rattle.machine.specs.Runs.{ran, total, runAt}
 use Rattle.machine.specs.declared.Stop.{Stop}
 use Rattle.machine.specs.declared.Outcome.the-variants.{Stopped}
 
--- registers: 0 public, 1 transient, 2 secret; array 0 public, array 1 secret, of four words each.
--- function 0, at 44: CONST 1 5 / RETURN.
--- the entry, at 51: INIT / CALL 0 marked / IF 0 (UPDATE 0 1 / LOAD 1 0 0 / PROTECT 1 1) ELSE (UPDATE 0 0 / STORE 0 0 1) ENDIF /
--- WHILE 0 (UPDATE 0 1 / LOAD 1 0 0 / CONST 0 0) ENDWHILE / UPDATE 0 0 / CALL 0 unmarked / RETURN
+-- registers: 0 public, 1 transient, 2 secret; array 0 public, array 1 secret, of four words each. function 0, at 44:
+-- CONST 1 5 / RETURN. the entry, at 51: INIT / CALL 0 marked / IF 0 (UPDATE 0 1 / LOAD 1 0 0 / PROTECT 1 1) ELSE
+-- (UPDATE 0 0 / STORE 0 0 1) ENDIF / WHILE 0 (UPDATE 0 1 / LOAD 1 0 0 / CONST 0 0) ENDWHILE / UPDATE 0 0 / CALL 0
+-- unmarked / RETURN
 abbrev pub table : List ℕ
 table = 1 ∷ 3 ∷ 2 ∷ 2 ∷ 2 ∷ 4 ∷ 0 ∷ 2 ∷ 4 ∷ 0 ∷ 3 ∷ 44 ∷ 0 ∷ 1 ∷ 36 ∷ 0 ∷ 0 ∷ 0 ∷ 9 ∷ 0 ∷ 1 ∷ 32 ∷ 0 ∷ 0 ∷ 0 ∷ 9 ∷ 0 ∷ 3 ∷ 51 ∷ 0 ∷ 0 ∷ 36 ∷ 0 ∷ 0 ∷ 0 ∷ 8 ∷ 0 ∷ 0 ∷ 36 ∷ 0 ∷ 0 ∷ 0 ∷ 9 ∷ 0 ∷ 16 ∷ 1 ∷ 5 ∷ 0 ∷ 0 ∷ 0 ∷ 37 ∷ 21 ∷ 24 ∷ 0 ∷ 1 ∷ 32 ∷ 0 ∷ 69 ∷ 0 ∷ 22 ∷ 0 ∷ 1 ∷ 19 ∷ 1 ∷ 0 ∷ 0 ∷ 23 ∷ 1 ∷ 1 ∷ 33 ∷ 79 ∷ 0 ∷ 22 ∷ 0 ∷ 0 ∷ 20 ∷ 0 ∷ 0 ∷ 1 ∷ 34 ∷ 35 ∷ 0 ∷ 104 ∷ 0 ∷ 1 ∷ 36 ∷ 0 ∷ 0 ∷ 0 ∷ 9 ∷ 0 ∷ 22 ∷ 0 ∷ 1 ∷ 19 ∷ 1 ∷ 0 ∷ 0 ∷ 16 ∷ 0 ∷ 0 ∷ 0 ∷ 0 ∷ 0 ∷ 36 ∷ 80 ∷ 0 ∷ 22 ∷ 0 ∷ 0 ∷ 24 ∷ 0 ∷ 0 ∷ 37 ∷ []
 
@@ -38,12 +39,13 @@ pub passes : checkAt table ≡ Accepted 2 114
 unfolding below slot levelsIn packedIn joinStatus sameStatus within kill guardStatus callStatus settle beside rowAt decodeAt sizesAt arrayAt signatureAt arraysAt signaturesAt wordsFrom recordOf returnOf allowed recordAt callAt ifWith whileWith blockWith instrAt blockAt functionAt functionsAt partsAt readAt typeBlock typeInstr typeFunction typeFrom checkAt
 passes = refl
 
--- register 0 is zero. Into the first block all the same, where UPDATE masks the flag and PROTECT hides what was loaded; into the loop, and
--- out; and from the second CALL back to the place after the first
+-- register 0 is zero. Into the first block all the same, where UPDATE masks the flag and PROTECT hides what was
+-- loaded; into the loop, and out; and from the second CALL back to the place after the first
 abbrev pub astray : List ℕ
 astray = 96 ∷ 96 ∷ 96 ∷ 99 ∷ 55 ∷ 0 ∷ 97 ∷ 1 ∷ 96 ∷ 96 ∷ 96 ∷ 96 ∷ 97 ∷ 1 ∷ 96 ∷ 96 ∷ 96 ∷ 96 ∷ 97 ∷ 0 ∷ 96 ∷ 96 ∷ 96 ∷ 99 ∷ 55 ∷ 0 ∷ []
 
--- register 0 is nine, no index of array 0. Into the second block, where the STORE goes to array 1; into the loop, where the LOAD reads it
+-- register 0 is nine, no index of array 0. Into the second block, where the STORE goes to array 1; into the loop,
+-- where the LOAD reads it
 abbrev pub strays : List ℕ
 strays = 96 ∷ 96 ∷ 96 ∷ 99 ∷ 55 ∷ 0 ∷ 97 ∷ 0 ∷ 96 ∷ 98 ∷ 1 ∷ 2 ∷ 0 ∷ 96 ∷ 97 ∷ 1 ∷ 96 ∷ 98 ∷ 1 ∷ 3 ∷ 0 ∷ 96 ∷ 96 ∷ 97 ∷ 1 ∷ []
 

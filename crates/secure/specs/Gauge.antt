@@ -1,6 +1,6 @@
--- Order 3: a routine that sums two channels of a gauge. Which word each channel reads stands in an array that is transient on the way in.
--- With a PROTECT for each it passed before, and passes; without them it was refused before (10 at 42), and passes now.
--- tests/examples/gauge-protect.txt and gauge-init.txt have the tables in words.
+-- Order 3: a routine that sums two channels of a gauge. Which word each channel reads stands in an array that is
+-- transient on the way in. With a PROTECT for each it passed before, and passes; without them it was refused before
+-- (10 at 42), and passes now. tests/examples/gauge-protect.txt and gauge-init.txt have the tables in words.
 use Prim.Native.Nat.{ℕ, zero, suc, _<_}
 use native.Mathlib.Omega.{arith}
 use mathlib.Core.Path.{_≡_, refl}

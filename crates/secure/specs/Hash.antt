@@ -1,7 +1,7 @@
--- Order 1: a hash routine with a schedule and round constants, both public; the message is secret. A word of the schedule says which word of the
--- message comes next. With LOAD all that is loaded of them comes out transient: the schedule's word is no index (10 at 49). With
--- LOAD FIXED it is public. Neither table has an INIT, an UPDATE or a PROTECT, and both have the same signature.
--- tests/examples/hash-load.txt and hash-fixed.txt have them in words.
+-- Order 1: a hash routine with a schedule and round constants, both public; the message is secret. A word of the
+-- schedule says which word of the message comes next. With LOAD all that is loaded of them comes out transient: the
+-- schedule's word is no index (10 at 49). With LOAD FIXED it is public. Neither table has an INIT, an UPDATE or a
+-- PROTECT, and both have the same signature. tests/examples/hash-load.txt and hash-fixed.txt have them in words.
 use Prim.Native.Nat.{ℕ}
 use mathlib.Core.Path.{_≡_, refl}
 use mathlib.Core.List.{List, [], _∷_}

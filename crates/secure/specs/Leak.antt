@@ -1,5 +1,6 @@
--- Order 1 and "A STORE that raises only the array it names" (01, "Plausible wrong programs"). LOAD FIXED takes its array's own level, so
--- a stray store into an array that is still called public would come back as a public value: of such a rule demand 3 is false.
+-- Order 1 and "A STORE that raises only the array it names" (01, "Plausible wrong programs"). LOAD FIXED takes its
+-- array's own level, so a stray store into an array that is still called public would come back as a public value: of
+-- such a rule demand 3 is false.
 use Prim.Native.Nat.{ℕ, zero, suc, _<_, _≤_}
 use native.Mathlib.Omega.{arith}
 use mathlib.Core.Path.{_≡_, refl, sym, ap, _∙_}
@@ -51,7 +52,8 @@ namedOnly t = typingBy t (λ s. after (t .arrays) (asFixed s))
 abbrev pub NamedPasses : List ℕ → Type 0
 NamedPasses t = Readable t × Every (tableOf t) (namedOnly (tableOf t))
 
--- ---- THE LEAK. Register 0 public, register 1 secret; arrays 0 and 1 public, of one word each. tests/examples/store-leak.txt:
+-- ---- THE LEAK (tests/examples/store-leak.txt)
+-- Register 0 public, register 1 secret; arrays 0 and 1 public, of one word each.
 -- IF 0 ELSE / STORE 0 0 1 / LOAD FIXED 0 1 0 / LOAD 0 0 0 / ENDIF / RETURN
 abbrev pub leak : List ℕ
 leak = 1 ∷ 2 ∷ 2 ∷ 1 ∷ 2 ∷ 1 ∷ 0 ∷ 2 ∷ 1 ∷ 0 ∷ 3 ∷ 27 ∷ 0 ∷ 0 ∷ 8 ∷ 0 ∷ 0 ∷ 0 ∷ 0 ∷ 0 ∷ 0 ∷ 10 ∷ 0 ∷ 0 ∷ 0 ∷ 6 ∷ 0 ∷ 32 ∷ 0 ∷ 31 ∷ 0 ∷ 33 ∷ 47 ∷ 0 ∷ 20 ∷ 0 ∷ 0 ∷ 1 ∷ 27 ∷ 0 ∷ 1 ∷ 0 ∷ 0 ∷ 19 ∷ 0 ∷ 0 ∷ 0 ∷ 34 ∷ 37 ∷ []
@@ -61,8 +63,8 @@ pub refused : checkAt leak ≡ Refused 10 43
 unfolding below slot levelsIn packedIn joinStatus sameStatus within kill guardStatus callStatus settle beside rowAt decodeAt sizesAt arrayAt signatureAt arraysAt signaturesAt wordsFrom recordOf returnOf allowed recordAt callAt ifWith whileWith blockWith instrAt blockAt functionAt functionsAt partsAt readAt typeBlock typeInstr typeFunction typeFrom checkAt
 refused = refl
 
--- register 0 is 1. Into the second block all the same; the STORE, out of range, goes to array 1; LOAD FIXED reads it there; the address that
--- the LOAD asks for is the secret
+-- register 0 is 1. Into the second block all the same; the STORE, out of range, goes to array 1; LOAD FIXED reads it
+-- there; the address that the LOAD asks for is the secret
 abbrev pub dirs : List ℕ
 dirs = 97 ∷ 0 ∷ 98 ∷ 1 ∷ 0 ∷ 0 ∷ 96 ∷ 98 ∷ 0 ∷ 0 ∷ 0 ∷ 96 ∷ []
 

@@ -1,9 +1,10 @@
--- Two permitted answers are equal: whatever two programs meet a contract, they answer alike, and leave every lent word alike. Each
--- premise is that function's contract as it stands in the source, over the values of its arguments. Here are the library's three main
--- functions. message::shown, whose answer is a lent part, has its own (Rattle.message.specs.OneAnswer), and so has the exported run
--- (Rattle.likunjavo.specs.Numbers). The contracts of the other public functions (of format, head, layout, records, message::part_of,
--- report::verdict_line, the exported check and message) are equations between each part of the answer, or a lent slice
--- afterwards, and a value that the arguments fix: one-of is for each such part.
+-- Two permitted answers are equal: whatever two programs meet a contract, they answer alike, and leave every lent
+-- word alike. Each premise is that function's contract as it stands in the source, over the values of its arguments.
+-- Here are the library's three main functions. message::shown, whose answer is a lent part, has its own
+-- (Rattle.message.specs.OneAnswer), and so has the exported run (Rattle.likunjavo.specs.Numbers). The contracts of
+-- the other public functions (of format, head, layout, records, message::part_of, report::verdict_line, the exported
+-- check and message) are equations between each part of the answer, or a lent slice afterwards, and a value that the
+-- arguments fix: one-of is for each such part.
 use Prim.Native.Nat.{ℕ}
 use mathlib.Core.Path.{_≡_, sym, ap, _∙_}
 use mathlib.Core.List.{List}

@@ -9,7 +9,8 @@ use Rattle.typing.specs.declared.Verdict.the-variants.{Accepted}
 use Rattle.typing.specs.Check.{checkAt}
 use Rattle.typing.specs.Checked.{Readable, check-means, means-one}
 
--- what passing was (the right side of passes-exactly, under the rules of then): the table reads, and those rules type every function of it
+-- what passing was (the right side of passes-exactly, under the rules of then): the table reads, and those rules type
+-- every function of it
 abbrev pub PassedBefore : List ℕ → Type 0
 PassedBefore t = Readable t × TypedBefore (tableOf t)
 

@@ -1,4 +1,5 @@
--- The check of a table: number 1, a forward reading (2 to 9), then typing (10 to 14). Nothing but the table's bytes goes into it.
+-- The check of a table: number 1, a forward reading (2 to 9), then typing (10 to 14). Nothing but the table's bytes
+-- goes into it.
 use Prim.Native.Nat.{ℕ, suc}
 use mathlib.Core.List.{List}
 use lib.ListN.{length}

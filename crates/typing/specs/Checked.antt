@@ -1,5 +1,5 @@
--- Demand 2 for checking: what the check's answer means. The rules (Rattle.model.specs.Rules, Blocks) and the first fault
--- (Rattle.model.specs.Faults) are stated there by themselves; here the check is held to them.
+-- Demand 2 for checking: what the check's answer means. The rules (Rattle.model.specs.Rules, Blocks) and the first
+-- fault (Rattle.model.specs.Faults) are stated there by themselves; here the check is held to them.
 use Prim.Native.Nat.{ℕ, suc}
 use mathlib.Core.Path.{_≡_, refl, sym, ap, subst, _∙_}
 use mathlib.Core.Logic.{_↔_}
@@ -26,9 +26,9 @@ use Rattle.typing.specs.Check.{typed, answered, checkAt}
 abbrev pub Readable : List ℕ → Type 0
 Readable t = readAt t ≡ Reads (sizesOf t)
 
--- 01's words for each case of a verdict.
--- Accepted F B, "accepted F functions B bytes": it reads, the rules type every function, F and B are its functions and its length.
--- Refused N P, "refused N at P": it does not read, and N at P is the reading's fault; or it reads, and N at P is the first fault of typing
+-- 01's words for each case of a verdict. Accepted F B, "accepted F functions B bytes": it reads, the rules type every
+-- function, F and B are its functions and its length. Refused N P, "refused N at P": it does not read, and N at P is
+-- the reading's fault; or it reads, and N at P is the first fault of typing
 pub data Refusal (t : List ℕ) (n p : ℕ) : Type 0 where
   unread : readAt t ≡ Answer.Refused n p → Refusal t n p
   untyped : Readable t → FirstFault (tableOf t) (typing (tableOf t)) numberOf n p → Refusal t n p

@@ -1,4 +1,5 @@
--- What the checker's environment stands for: the level in each slot. Only this file and its functions know how it is kept.
+-- What the checker's environment stands for: the level in each slot. Only this file and its functions know how it is
+-- kept.
 use Prim.Native.Nat.{ℕ, _<_, _≤_}
 use mathlib.Core.List.{List}
 use lib.ListN.{length}

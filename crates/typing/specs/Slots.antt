@@ -1,5 +1,5 @@
--- Order 2: the environments that the check of a table meets keep to the table's slots: no slot is 3, and unused slots are 0.
--- The packed forms of within and join (Rattle.model.specs.Words) ask for no more.
+-- Order 2: the environments that the check of a table meets keep to the table's slots: no slot is 3, and unused slots
+-- are 0. The packed forms of within and join (Rattle.model.specs.Words) ask for no more.
 use Prim.Native.Nat.{ℕ, _<_}
 use mathlib.Core.Path.{_≡_, subst}
 use mathlib.Core.Bool.{Bool}

@@ -114,7 +114,8 @@ fn status_of(b: u8) -> Status
     Status::Unknown
 }
 
-// Makes an environment of a status and the packed levels of registers and arrays. No other function writes a `WordEnv` down.
+// Makes an environment of a status and the packed levels of registers and arrays. No other function writes a
+// `WordEnv` down.
 pub(crate) fn env_from(status: Status, registers: u32, arrays: u32) -> WordEnv
     ensures { λ r. ⌜ viewEnv r ≡ envFrom status registers arrays ⌝ }
 {

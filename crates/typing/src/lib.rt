@@ -11,8 +11,8 @@ mod environments;
 mod rules;
 mod walks;
 
-// An environment: a status, and the levels of the registers and of the arrays, packed two bits a slot. The seven bytes of a
-// table hold as much, but for the status: there it is never outdated.
+// An environment: a status, and the levels of the registers and of the arrays, packed two bits a slot. The seven
+// bytes of a table hold as much, but for the status: there it is never outdated.
 pub struct WordEnv {
     pub status: Status,
     pub registers: u32,
@@ -31,7 +31,8 @@ pub struct BlockEnd {
     pub env: WordEnv,
 }
 
-// What the check of a table answers: how many functions it accepts in how many bytes; or the first fault with its place.
+// What the check of a table answers: how many functions it accepts in how many bytes; or the first fault with its
+// place.
 pub enum Verdict {
     Accepted(u8, usize),
     Refused(u8, usize),

@@ -131,7 +131,8 @@ fn raised_env(e: WordEnv, others: u32, array: u8, source: u8) -> WordEnv
     env_from(status, e.registers, arrays)
 }
 
-// The levels of so many arrays beside one into which level l is stored: what was public becomes transient, unless l is public.
+// The levels of so many arrays beside one into which level l is stored: what was public becomes transient, unless l
+// is public.
 fn beside_levels(arrays: u32, count: u8, l: u8) -> u32
     requires { ⌜ NoThree (slot arrays) × (count ≤ 16) ⌝ }
     ensures { λ r. ⌜ slot r ≡ (λ b. beside count l b (slot arrays b)) ⌝ }

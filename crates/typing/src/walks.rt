@@ -1,5 +1,5 @@
-// The typing walk: blocks and records in table order, the environment carried along. The readers' cycle once more: what falls
-// is the nesting that is left, and within a block the bytes left.
+// The typing walk: blocks and records in table order, the environment carried along. The readers' cycle once more:
+// what falls is the nesting that is left, and within a block the bytes left.
 use crate::BlockEnd;
 use crate::Walk;
 use crate::WordEnv;

@@ -130,8 +130,8 @@ module _ (t : Table) where
       → Works (written E d l) mis (plain dir (did (wrote x d v) Nothing)) (plain dir (did (wrote y d w) Nothing))
   write-works E mis x y h dir d l v w e = plain-works (written E d l) mis dir _ _ (refl, wrote-alike E mis x y h d l v w e)
 
-  -- word j of array b becomes register s, array a having been named and raised to l: the other arrays' levels do not fall, and the
-  -- word is seen only if the register is
+  -- word j of array b becomes register s, array a having been named and raised to l: the other arrays' levels do not
+  -- fall, and the word is seen only if the register is
   stored-alike : (E : Env) (mis : Bool) (x y : Data) → Alike t E mis x y → (others : ℕ → ℕ) (a l s b j : ℕ) → ((c : ℕ) → E .arrays c ≤ others c) → j < wordsOf t b
       → (put others a (max (E .arrays a) l) b ≤ top mis → E .regs s ≤ top mis)
       → Alike t (raised E others a l) mis (stored t x b j (reg x s)) (stored t y b j (reg y s))

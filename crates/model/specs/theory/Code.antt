@@ -1,4 +1,5 @@
--- The places of a table whose functions all read, or all type: where each stands, what is at it, how deep the stack gets.
+-- The places of a table whose functions all read, or all type: where each stands, what is at it, how deep the stack
+-- gets.
 use Prim.Native.Nat.{ℕ, suc, _+_, _<_}
 use native.Mathlib.Omega.{arith}
 use mathlib.Core.Path.{_≡_, refl, sym, _∙_, subst}

@@ -40,7 +40,8 @@ module _ (t : Table) where
   pub store-fixed-plain : (a i s : ℕ) (mis : Bool) (x : Data) → work t (StoreFixed a i s) Plain mis x ≡ did (stored t x a i (reg x s)) (Address a i)
   store-fixed-plain a i s mis x = refl
 
-  -- "The index is checked at reading, so a stray access cannot occur": the word that a record of a table names lies in its array
+  -- "The index is checked at reading, so a stray access cannot occur": the word that a record of a table names lies
+  -- in its array
   pub load-fixed-lies : (p d a i : ℕ) → t .rec p ≡ Do (LoadFixed d a i) → i < wordsOf t a
   load-fixed-lies p d a i e = subst (Reaches (t .words)) e (t .reaches p)
 

@@ -1,4 +1,5 @@
--- The functions of a table in order: they fill the code, and a function's return sites are exactly the places after its CALLs.
+-- The functions of a table in order: they fill the code, and a function's return sites are exactly the places after
+-- its CALLs.
 use Prim.Native.Nat.{ℕ, zero, suc, _+_, _-_, _<_, _≤_}
 use native.Mathlib.Omega.{arith}
 use mathlib.Core.Path.{_≡_, refl, sym, ap, subst, _∙_}

@@ -1,5 +1,6 @@
--- The first fault is one: over a block that has been read, the walk answers with whatever fault the relation gives, so two
--- first faults of a table are the same number at the same place. By induction on how the block was read, as in Passes.
+-- The first fault is one: over a block that has been read, the walk answers with whatever fault the relation gives,
+-- so two first faults of a table are the same number at the same place. By induction on how the block was read, as in
+-- Passes.
 use Prim.Native.Nat.{ℕ, zero, suc, _+_, _<_, _≤_, max}
 use native.Mathlib.Omega.{arith}
 use mathlib.Core.Path.{_≡_, refl, sym, ap, subst, _∙_}

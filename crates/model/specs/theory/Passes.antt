@@ -1,6 +1,7 @@
--- The walk is right. Over a block that has been read, it ends at the block's end exactly where the rules type the block, with
--- the environment that they give; and the fault that it answers is the first fault. By induction on how the block was read:
--- one lemma for each way that a block begins, first for what an answer says, then for what the rules type.
+-- The walk is right. Over a block that has been read, it ends at the block's end exactly where the rules type the
+-- block, with the environment that they give; and the fault that it answers is the first fault. By induction on how
+-- the block was read: one lemma for each way that a block begins, first for what an answer says, then for what the
+-- rules type.
 use Prim.Native.Nat.{ℕ, zero, suc, _+_, _<_, _≤_, max}
 use native.Mathlib.Omega.{arith}
 use native.Mathlib.Nat.{le-refl}
@@ -53,7 +54,8 @@ module _ (t : Table) (R : Rules) (h : ℕ) where
   begins-single : (p q : ℕ) (E F : R .Env) (i : Record) → Single i → Begins p E q F i → R .Needs h i E × Types t R h (p + lengthOf i) (R .after i E) q F
   begins-single p q E F = of-single (λ i. Begins p E q F i → R .Needs h i E × Types t R h (p + lengthOf i) (R .after i E) q F) (λ s w. w) (λ f m w. w)
 
-  -- a derivation whose first record opens and closes no block: that record's needs are met, and the rest is a derivation
+  -- a derivation whose first record opens and closes no block: that record's needs are met, and the rest is a
+  -- derivation
   pub past-single : {p q : ℕ} {E F : R .Env} → Types t R h p E q F → Closes (t .rec q) → Single (t .rec p) → R .Needs h (t .rec p) E × Types t R h (p + lengthOf (t .rec p)) (R .after (t .rec p) E) q F
   past-single {p = p} {q = q} {E = E} {F = F} w c s = begins-single p q E F (t .rec p) s (begins w c)
 

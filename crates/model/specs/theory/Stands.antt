@@ -1,4 +1,5 @@
--- Where a run can stand, typed or not: at a record of the code, with a stack of places that follow calls, no deeper than the functions.
+-- Where a run can stand, typed or not: at a record of the code, with a stack of places that follow calls, no deeper
+-- than the functions.
 use Prim.Native.Nat.{ℕ, _+_, _-_, _<_}
 use native.Mathlib.Omega.{arith}
 use mathlib.Core.Path.{_≡_, refl, subst}

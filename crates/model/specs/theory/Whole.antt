@@ -1,5 +1,6 @@
--- Order 2: what the packed forms ask of an environment, for any slot count: no slot is 3, and unused slots are 0. The rules
--- keep it, so that it holds of every environment that the walk of a table meets, once it holds of the signatures.
+-- Order 2: what the packed forms ask of an environment, for any slot count: no slot is 3, and unused slots are 0. The
+-- rules keep it, so that it holds of every environment that the walk of a table meets, once it holds of the
+-- signatures.
 use Prim.Native.Nat.{ℕ, zero, suc, _+_, _<_, max}
 use native.Mathlib.Omega.{arith}
 use mathlib.Core.Path.{_≡_, refl}

@@ -1,6 +1,7 @@
--- Order 2: packed words. A word of n slots, below 4 ^ n, holds two bits a slot, slot 0 lowest (Packing). What levels are, within
--- and the join stand in Levels; here are the forms that work on a whole word at once, and the laws that say what they mean. The
--- laws ask two things of a word: no slot is 3, and the slots that a table does not use are 0. They hold for any width n.
+-- Order 2: packed words. A word of n slots, below 4 ^ n, holds two bits a slot, slot 0 lowest (Packing). What levels
+-- are, within and the join stand in Levels; here are the forms that work on a whole word at once, and the laws that
+-- say what they mean. The laws ask two things of a word: no slot is 3, and the slots that a table does not use are 0.
+-- They hold for any width n.
 use Prim.Native.Nat.{ℕ, zero, suc, _+_, _-_, _*_, _/_, _%_, _^_, _<_, _≤_, max}
 use native.Mathlib.Omega.{arith}
 use native.Mathlib.Nat.{div-one, div-div-eq-div-mul, pow-suc, pow-succ', lt-of-le-of-lt}

@@ -63,7 +63,8 @@ module _ (t : List ℕ) where
   abbrev pub Packs : ℕ → Type 0
   Packs at = (packedIn (z .registers) (z .arrays) (packedAt t (at + 3)) ≡ true) × (packedIn (z .registers) (z .arrays) (packedAt t (at + 10)) ≡ true)
 
-  -- a signature that n others follow: the next one is due 17 bytes on, its environments are levels, and the entry's in status byte is 0
+  -- a signature that n others follow: the next one is due 17 bytes on, its environments are levels, and the entry's
+  -- in status byte is 0
   abbrev Signed : ℕ → ℕ → To → Type 0
   Signed n at (At p) = (p ≡ at + 17) × Packs at × (n ≡ 0 → byte t (at + 3) ≡ 0)
   Signed n at (To.Fault k p) = Unit {0}

@@ -1,5 +1,6 @@
--- From bytes to blocks: a table that reads is, function by function, a table of blocks that nest at most 16 deep and whose calls
--- go downward. What the reading of a record, of a block, and of the functions has found out, by the same recursion as theirs.
+-- From bytes to blocks: a table that reads is, function by function, a table of blocks that nest at most 16 deep and
+-- whose calls go downward. What the reading of a record, of a block, and of the functions has found out, by the same
+-- recursion as theirs.
 use Prim.Native.Nat.{ℕ, zero, suc, _+_, _-_, _<_, _≤_, zero-le, suc-le-suc}
 use native.Mathlib.Omega.{arith}
 use native.Mathlib.Numerals.{add-one}
@@ -255,7 +256,8 @@ module _ (t : List ℕ) where
   pub sizes-read : (y : Sizes) → readAt t ≡ Reads y → y ≡ sizesOf t
   sizes-read y e = subst AnswerRead e answer-read .0
 
-  -- THE LINK: every function of a table that reads is a block by reading's rules, nested at most 16 deep, and lies in the table
+  -- THE LINK: every function of a table that reads is a block by reading's rules, nested at most 16 deep, and lies in
+  -- the table
   pub all-read : (y : Sizes) → readAt t ≡ Reads y → (g : ℕ) → g < (tableOf t) .functions → Read (tableOf t) (suc (length t)) g
   unfolding returnOf
   all-read y e g l =

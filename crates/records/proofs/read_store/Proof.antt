@@ -8,27 +8,27 @@ use Rattle.records.proofs.read_store.Tie as tie
 use Rattle.records.proofs.read_store.Reads as reads
 use Rattle.records.proofs.read_store.Lts as lts
 
-returns : tie.Need-returns
+bad-array : tie.Need-returns
 unfolding rowAt
-returns c =
+bad-array c =
     let h1 = c .if1 .taken in
     simp (whole (c .before .before .before .before .before .args .t .now) (c .before .before .before .before .before .args .at) 4 (c .before .before .before .before .before .pre), lt-ltb, le-ltb)
 
-returns-2 : tie.Need-returns-2
+bad-index : tie.Need-returns-2
 unfolding rowAt
-returns-2 c =
+bad-index c =
     let h1 = c .if2 .taken in
     simp (whole (c .before .before .before .before .before .before .before .args .t .now) (c .before .before .before .before .before .before .before .args .at) 4 (c .before .before .before .before .before .before .before .pre), le-ltb, pick-same)
 
-returns-3 : tie.Need-returns-3
+bad-source : tie.Need-returns-3
 unfolding rowAt
-returns-3 c =
+bad-source c =
     let h1 = c .if3 .taken in
     simp (whole (c .before .before .before .before .before .before .before .before .before .args .t .now) (c .before .before .before .before .before .before .before .before .before .args .at) 4 (c .before .before .before .before .before .before .before .before .before .pre), le-ltb, pick-same)
 
-returns-4 : tie.Need-returns-4
+in-range : tie.Need-returns-4
 unfolding rowAt
-returns-4 c =
+in-range c =
     let h1 = c .if3 .left in
     let h2 = c .before .before .if2 .left in
     let h3 = c .before .before .before .before .if1 .left in
@@ -36,4 +36,4 @@ returns-4 c =
 
 pub read-store-spec : {M : Type 1} → statement M
 read-store-spec =
-    tie.close (tie.spec (λ c. search needs) (λ c. search needs) (λ c. search needs) (λ c. search needs) (λ c. search needs) (λ c. search needs) returns returns-2 returns-3 (λ c. search needs) returns-4)
+    tie.close (tie.spec (λ c. search needs) (λ c. search needs) (λ c. search needs) (λ c. search needs) (λ c. search needs) (λ c. search needs) bad-array bad-index bad-source (λ c. search needs) in-range)

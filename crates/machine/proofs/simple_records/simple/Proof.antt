@@ -30,16 +30,16 @@ use Rattle.machine.proofs.simple_records.store_fixed.Reads as store-fix
 use Rattle.machine.proofs.simple_records.updated.Reads as updated-reads
 use Rattle.machine.proofs.simple_records.write.Reads as write-reads
 
-returns : tie.Need-returns
-returns c =
+const : tie.Need-returns
+const c =
     let a = c .before .before .before .before .before .before .before .args in
     let T = tableWith (a .z) (a .t .now) in
     let X = dataOf (a .s) (a .regs .now) (a .mem .now) in
     let is = work-of T (a .dir) (a .s .mis) X (to (ctlOf (a .s)) (a .next)) (c .before .before .r .given .1) in
     (c .write .ensures .0 T X ∙ is, c .write .ensures .1 T)
 
-returns-2 : tie.Need-returns-2
-returns-2 c =
+op : tie.Need-returns-2
+op c =
     let a = c .before .before .before .before .before .before .before .before .args in
     let T = tableWith (a .z) (a .t .now) in
     let X = dataOf (a .s) (a .regs .now) (a .mem .now) in
@@ -47,8 +47,8 @@ returns-2 c =
     let value : ℕ → Stepped = λ v. plainly T (a .dir) (a .s) (a .next) (Register (c .before .before .before .r2 .given .0 .0) v) (a .s .masked) Nothing X in
     (c .write2 .ensures .0 T X ∙ ap value (c .before .operated .ensures) ∙ is, c .write2 .ensures .1 T)
 
-returns-3 : tie.Need-returns-3
-returns-3 c =
+select : tie.Need-returns-3
+select c =
     let a = c .before .before .before .before .before .before .before .before .args in
     let T = tableWith (a .z) (a .t .now) in
     let X = dataOf (a .s) (a .regs .now) (a .mem .now) in
@@ -56,32 +56,32 @@ returns-3 c =
     let value : ℕ → Stepped = λ v. plainly T (a .dir) (a .s) (a .next) (Register (c .before .before .before .r3 .given .0 .0) v) (a .s .masked) Nothing X in
     (c .write3 .ensures .0 T X ∙ ap value (c .before .selected .ensures) ∙ is, c .write3 .ensures .1 T)
 
-returns-4 : tie.Need-returns-4
-returns-4 c =
+load : tie.Need-returns-4
+load c =
     let a = c .before .before .before .before .before .before .before .args in
     let T = tableWith (a .z) (a .t .now) in
     let X = dataOf (a .s) (a .regs .now) (a .mem .now) in
     let is = work-of T (a .dir) (a .s .mis) X (to (ctlOf (a .s)) (a .next)) (c .before .before .r4 .given .1) in
     (c .load .ensures .0 ∙ is, c .load .ensures .1)
 
-returns-5 : tie.Need-returns-5
-returns-5 c =
+store : tie.Need-returns-5
+store c =
     let a = c .before .before .before .before .before .before .before .args in
     let T = tableWith (a .z) (a .t .now) in
     let X = dataOf (a .s) (a .regs .now) (a .mem .now) in
     let is = work-of T (a .dir) (a .s .mis) X (to (ctlOf (a .s)) (a .next)) (c .before .before .r5 .given .1) in
     (c .store .ensures .0 (a .mem .now) ∙ is, c .store .ensures .1)
 
-returns-6 : tie.Need-returns-6
-returns-6 c =
+init : tie.Need-returns-6
+init c =
     let a = c .before .before .before .before .before .before .args in
     let T = tableWith (a .z) (a .t .now) in
     let X = dataOf (a .s) (a .regs .now) (a .mem .now) in
     let is = work-of T (a .dir) (a .s .mis) X (to (ctlOf (a .s)) (a .next)) (c .before .enum-told .given .1) in
     (c .init .ensures .0 T (a .regs .now) (a .mem .now) ∙ is, c .init .ensures .1 T)
 
-returns-7 : tie.Need-returns-7
-returns-7 c =
+update : tie.Need-returns-7
+update c =
     let a = c .before .before .before .before .before .before .before .before .before .args in
     let T = tableWith (a .z) (a .t .now) in
     let X = dataOf (a .s) (a .regs .now) (a .mem .now) in
@@ -89,8 +89,8 @@ returns-7 c =
     let held = c .before .condition .ensures ∙ ap (λ (v : ℕ). holds v (c .before .before .before .before .r6 .given .0 .1 .0)) (c .before .before .get .ensures) in
     (c .updated .ensures .0 T X ∙ ap (λ (b : Bool). plainly T (a .dir) (a .s) (a .next) None (pick b (a .s .masked) true) Nothing X) held ∙ is, c .updated .ensures .1 T)
 
-returns-8 : tie.Need-returns-8
-returns-8 c =
+protect : tie.Need-returns-8
+protect c =
     let a = c .before .before .before .before .before .before .before .before .args in
     let T = tableWith (a .z) (a .t .now) in
     let X = dataOf (a .s) (a .regs .now) (a .mem .now) in
@@ -98,16 +98,16 @@ returns-8 c =
     let value : ℕ → Stepped = λ v. plainly T (a .dir) (a .s) (a .next) (Register (c .before .before .before .r7 .given .0 .0) v) (a .s .masked) Nothing X in
     (c .write4 .ensures .0 T X ∙ ap value (c .before .shielded .ensures) ∙ is, c .write4 .ensures .1 T)
 
-returns-9 : tie.Need-returns-9
-returns-9 c =
+load-fixed : tie.Need-returns-9
+load-fixed c =
     let a = c .before .before .before .before .before .before .before .args in
     let T = tableWith (a .z) (a .t .now) in
     let X = dataOf (a .s) (a .regs .now) (a .mem .now) in
     let is = work-of T (a .dir) (a .s .mis) X (to (ctlOf (a .s)) (a .next)) (c .before .before .r8 .given .1) in
     (c .load-fixed .ensures .0 (a .regs .now) ∙ is, c .load-fixed .ensures .1 T)
 
-returns-10 : tie.Need-returns-10
-returns-10 c =
+store-fixed : tie.Need-returns-10
+store-fixed c =
     let a = c .before .before .before .before .before .before .before .args in
     let T = tableWith (a .z) (a .t .now) in
     let X = dataOf (a .s) (a .regs .now) (a .mem .now) in
@@ -145,13 +145,13 @@ simple-spec =
     (λ c κs. search needs)
     (λ c. search needs)
     (λ c κs. search needs)
-    returns
-    returns-2
-    returns-3
-    returns-4
-    returns-5
-    returns-6
-    returns-7
-    returns-8
-    returns-9
-    returns-10)
+    const
+    op
+    select
+    load
+    store
+    init
+    update
+    protect
+    load-fixed
+    store-fixed)

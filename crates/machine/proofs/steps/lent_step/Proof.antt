@@ -1,7 +1,8 @@
--- `machine::steps::lent_step` meets its contract: a walk of its MIR, by hand. The state is copied into a local; a lifetime is made,
--- and the local is lent for it; `step` is called on that loan, and is given the table and the three lent slices for good; the
--- lifetime is ended, and the local is back, at the value that `step` said was the loan's last; `acted` puts it beside what `step`
--- returned. All that it knows of the two is that each meets its contract. Assumes nothing.
+-- `machine::steps::lent_step` meets its contract: a walk of its MIR, by hand. The state is copied into a local; a
+-- lifetime is made, and the local is lent for it; `step` is called on that loan, and is given the table and the three
+-- lent slices for good; the lifetime is ended, and the local is back, at the value that `step` said was the loan's
+-- last; `acted` puts it beside what `step` returned. All that it knows of the two is that each meets its contract.
+-- Assumes nothing.
 use mathlib.Core.Path.{_≡_, refl, sym, subst}
 use Prim.Native.Nat.{ℕ, _<_, _≤_, _^_}
 use mathlib.Core.List.{[], _∷_, List}
@@ -234,8 +235,8 @@ module _ {M : Type 1} (𝓤 : URA M) (H : Heap 𝓤) (A : Atoms 𝓤) (W : Given
         use1 W (later (some (λ (δ : GName). ‵ (MutRef (named 0) (α ∷ []) T.the-row .own (loan l₉ δ) (vptr l₉ 0 ∷ [])) ⊛ ‵ (flent (α ∷ []) (Body (mem T.the-row) l₉ 0 δ)))))
         (lends-ref 𝓤 H A W T.the-row (named 0) (α ∷ []) h l₉ 0) $
         await ! tt $ pick ! (λ δ. split ! $
-        -- [the loan; the lender's part; α's token; locals 18 to 10, at 39 − 2 i; room for 9; locals 8 to 0, at 38 − 2 i; the tokens; what is owned]
-        -- `step`
+        -- [the loan; the lender's part; α's token; locals 18 to 10, at 39 − 2 i; room for 9; locals 8 to 0, at 38 − 2
+        -- i; the tokens; what is owned] `step`
         move ! (41 ∷ []) $ fsplit ! $ move ! (1 ∷ []) $ fsplit ! $ move ! (1 ∷ []) $ fsplit ! $ drop ! $ move ! (1 ∷ 0 ∷ []) $ fjoin ! $ move ! (1 ∷ 0 ∷ []) $ fjoin ! $
         move ! (1 ∷ 0 ∷ []) $ fjoin ! $
         move ! (2 ∷ 40 ∷ []) $ join ! $ use2 W (raw (Step 𝓤 H A at-mem run .pre (to-step l₉ α δ))) (goes-step l₉ α δ ready) $
@@ -250,19 +251,22 @@ module _ {M : Type 1} (𝓤 : URA M) (H : Heap 𝓤) (A : Atoms 𝓤) (W : Given
         use1 W (some (λ (zs : Lasts). ‵ (lasts step.ended (step-lfts α) (step-args l₉ δ) zs) ⊛ raw (fact 𝓤 (Says (actedWith k (zs .0))
         (zs .1 .1 .1 .1 .1 .0) (zs .1 .1 .1 .1 .1 .1 .0) (zs .1 .1 .1 .1 .1 .1 .1 .0))))) (id⊢ 𝓤 _) $
         pick ! (λ zs. split ! $ move ! (1 ∷ []) $ heard ! (Says (actedWith k (zs .0)) (zs .1 .1 .1 .1 .1 .0) (zs .1 .1 .1 .1 .1 .1 .0) (zs .1 .1 .1 .1 .1 .1 .1 .0)) (λ e.
-        -- [the state's last value and the last lists; the tokens and the answer; the lender's part; …]: t, z, dir and seen have none
+        -- [the state's last value and the last lists; the tokens and the answer; the lender's part; …]: t, z, dir and
+        -- seen have none
         fsplit ! $ move ! (1 ∷ []) $ fsplit ! $ drop ! $ fsplit ! $ drop ! $ fsplit ! $ drop ! $ fsplit ! $ drop ! $
         fsplit ! $ fsplit ! $ move ! (1 ∷ []) $ feqL ! (λ lg. move ! (1 ∷ []) $ fsplit ! $ fsplit ! $ move ! (1 ∷ []) $ feqL ! (λ lm. move ! (1 ∷ []) $ fsplit ! $
         fsplit ! $ move ! (1 ∷ []) $ feqL ! (λ lv.
         move ! (5 ∷ []) $ split ! $ split ! $ move ! (2 ∷ []) $ peeks ! K.the-row (Is K.the-row) (shows 𝓤 H A K.the-row) k (w ∷ []) (λ k-is.
-        -- [the answer; α's token; the tokens; v's last list; true; m's; g's; the state's last value; the lender's part; locals 18 to 10, at 45 − 2 i; …]
+        -- [the answer; α's token; the tokens; v's last list; true; m's; g's; the state's last value; the lender's
+        -- part; locals 18 to 10, at 45 − 2 i; …]
         land ! (from ! (stop !)) (init ! 25 refl (LL.lawful K.the-type K′.the-laws 𝓤 H A W .typed k _ k-is .0)) $
         -- α ends, and the local is back
         move ! (1 ∷ []) $ lft-end ! tt $ move ! (0 ∷ 8 ∷ 7 ∷ []) $
         use3 W (later (‵ (mem T.the-row .lies (zs .0) l₉ 0))) (ref-back 𝓤 H A W T.the-row (α ∷ []) δ (zs .0) l₉ 0) $ await ! tt $
         use1 W (‵ (T.the-row .own (zs .0) (vals (zs .0))) ⊛ ‵ (fat fullShare T′.mir l₉ 0 (LL.val T.the-type T′.the-laws (zs .0)))) (lies-out 𝓤 H A W l₉ (zs .0)) $
         split ! $ peeks ! T.the-row (Is T.the-row) (shows 𝓤 H A T.the-row) (zs .0) (vals (zs .0)) (λ s-is.
-        -- [the state; local 9; the answer; the tokens; v's last list; true; m's; g's; locals 18 to 10, at 44 − 2 i; room for 9; locals 8 to 0, at 43 − 2 i]
+        -- [the state; local 9; the answer; the tokens; v's last list; true; m's; g's; locals 18 to 10, at 44 − 2 i;
+        -- room for 9; locals 8 to 0, at 43 − 2 i]
         assigns ! (of-opd ! (load ! (from ! (stop !)) (look ! 1 refl))) (from ! (stop !)) (init ! 8 refl
         (LL.lawful T.the-type T′.the-laws 𝓤 H A W .typed (zs .0) _ s-is .0)) $
         -- `acted`
@@ -274,7 +278,8 @@ module _ {M : Type 1} (𝓤 : URA M) (H : Heap 𝓤) (A : Atoms 𝓤) (W : Given
         await ! tt $ pick ! (λ r. split ! $ move ! (1 ∷ []) $ use1 W (raw (fact 𝓤 (r ≡ actedWith k (zs .0)))) (acted-fact 𝓤 H A at-mem run k (zs .0) r) $
         heard ! (r ≡ actedWith k (zs .0)) (λ e′.
         split ! $ drop ! $ peeks ! R.the-row (Is R.the-row) (shows 𝓤 H A R.the-row) r (w′ ∷ []) (λ r-is.
-        -- [what is returned; local 9; the tokens; v's last list; true; m's; g's; locals 18 to 10, at 43 − 2 i; room for 9; locals 8 to 0, at 42 − 2 i]
+        -- [what is returned; local 9; the tokens; v's last list; true; m's; g's; locals 18 to 10, at 43 − 2 i; room
+        -- for 9; locals 8 to 0, at 42 − 2 i]
         land ! (from ! (stop !)) (init ! 42 refl (LL.lawful R.the-type R′.the-laws 𝓤 H A W .typed r _ r-is .0)) $
         returns ! (look ! 42 refl) $ forget ! 1 refl $ forget ! 7 refl $ forget ! 9 refl $ forget ! 11 refl $ forget ! 13 refl $ forget ! 15 refl $ forget ! 17 refl $
         forget ! 19 refl $ forget ! 21 refl $ forget ! 23 refl $ forget ! 26 refl $ forget ! 28 refl $ forget ! 30 refl $ forget ! 32 refl $ forget ! 34 refl $

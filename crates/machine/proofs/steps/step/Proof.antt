@@ -1,8 +1,8 @@
--- `machine::steps::step` meets its contract: a walk of its MIR, by hand. The state's borrow is opened and the state copied out;
--- `act` is called on the copy, and is given the table and the three lent slices for good; `state_of` takes the new state out of
--- what it returned, which is stored over the old one; `took` takes out the rest; and the borrow is closed at the new state.
--- All that it knows of the three is that each meets its contract, so what `act` says of its answer is said of the answer that
--- is put together again from the two parts. Assumes nothing.
+-- `machine::steps::step` meets its contract: a walk of its MIR, by hand. The state's borrow is opened and the state
+-- copied out; `act` is called on the copy, and is given the table and the three lent slices for good; `state_of`
+-- takes the new state out of what it returned, which is stored over the old one; `took` takes out the rest; and the
+-- borrow is closed at the new state. All that it knows of the three is that each meets its contract, so what `act`
+-- says of its answer is said of the answer that is put together again from the two parts. Assumes nothing.
 use mathlib.Core.Path.{_≡_, refl, sym, subst}
 use Prim.Native.Nat.{ℕ, _<_, _≤_, _^_}
 use mathlib.Core.List.{[], _∷_, List}
@@ -216,7 +216,8 @@ module _ {M : Type 1} (𝓤 : URA M) (H : Heap 𝓤) (A : Atoms 𝓤) (W : Given
         move ! (37 ∷ []) $ fsplit ! $ fsplit3 ! $ drop ! $ move ! (39 ∷ []) $ split ! $ move ! (2 ∷ 3 ∷ 0 ∷ []) $
         opens ! tt T.the-row {h = h} b o (λ vs. spelt ! T.the-row (Is T.the-row) (shows 𝓤 H A T.the-row) vals (LL.tells T.the-type T′.the-laws) fullShare h vs b o $
         move ! (1 ∷ []) $ peeks ! T.the-row (Is T.the-row) (shows 𝓤 H A T.the-row) h (vals h) (λ h-is. move ! (1 ∷ 0 ∷ []) $
-        -- [the state's cell; what it owns; the open borrow; obs; auth; the tokens; what the others own; local i at 41 − 2 i]
+        -- [the state's cell; what it owns; the open borrow; obs; auth; the tokens; what the others own; local i at 41
+        -- − 2 i]
         assigns ! (of-opd ! (load ! (from ! (hop ! (look ! 39 refl) (stop !))) (look-raw ! 0 refl))) (from ! (stop !)) (init ! 23 refl
         (LL.lawful T.the-type T′.the-laws 𝓤 H A W .typed h _ h-is .0)) $
         assigns ! (addr ! (from ! (fld ! refl (hop ! (look-in ! 29 (sub ! 0 refl (whole !))) (stop !))))) (from ! (stop !)) (init ! 17 refl (tt, tt)) $
@@ -248,7 +249,8 @@ module _ {M : Type 1} (𝓤 : URA M) (H : Heap 𝓤) (A : Atoms 𝓤) (W : Given
         fsplit ! $ fsplit ! $ move ! (1 ∷ []) $ feqL ! (λ lg. move ! (1 ∷ []) $ fsplit ! $ fsplit ! $ move ! (1 ∷ []) $ feqL ! (λ lm. move ! (1 ∷ []) $ fsplit ! $
         fsplit ! $ move ! (1 ∷ []) $ feqL ! (λ lv.
         move ! (4 ∷ []) $ split ! $ move ! (1 ∷ []) $ peeks ! R.the-row (Is R.the-row) (shows 𝓤 H A R.the-row) r (w ∷ []) (λ r-is.
-        -- [the answer; the tokens; v's last list; true; m's; g's; the state's cell; the open borrow; obs; auth; local i at 44 − 2 i]
+        -- [the answer; the tokens; v's last list; true; m's; g's; the state's cell; the open borrow; obs; auth; local
+        -- i at 44 − 2 i]
         land ! (from ! (stop !)) (init ! 24 refl (LL.lawful R.the-type R′.the-laws 𝓤 H A W .typed r _ r-is .0)) $
         -- `state_of`, and what it returned is stored
         owned ! R.the-row (Is R.the-row) (LL.makes R.the-type R′.the-plain 𝓤 H A) r (w ∷ []) r-is $ use1 W (raw (StateOf 𝓤 H A at-mem run
@@ -258,7 +260,8 @@ module _ {M : Type 1} (𝓤 : URA M) (H : Heap 𝓤) (A : Atoms 𝓤) (W : Given
         ⊛ raw (ensured 𝓤 H A state-of.ended (state-of.clauses 𝓤 H A at-mem run) tt (r, tt) tt s′)))) (id⊢ 𝓤 _) $
         await ! tt $ pick ! (λ s′. split ! $ move ! (1 ∷ []) $ use1 W (raw (fact 𝓤 (s′ ≡ r .state))) (state-fact 𝓤 H A at-mem run r s′) $ heard ! (s′ ≡ r .state) (λ e′.
         split ! $ drop ! $ peeks ! T.the-row (Is T.the-row) (shows 𝓤 H A T.the-row) s′ (w′ ∷ []) (λ s-is.
-        -- [the new state; the answer; the tokens; v's last list; true; m's; g's; the state's cell; the open borrow; obs; auth; local i at 45 − 2 i]
+        -- [the new state; the answer; the tokens; v's last list; true; m's; g's; the state's cell; the open borrow;
+        -- obs; auth; local i at 45 − 2 i]
         land ! (from ! (stop !)) (init ! 23 refl (LL.lawful T.the-type T′.the-laws 𝓤 H A W .typed s′ _ s-is .0)) $
         assigns ! (of-opd ! (load ! (from ! (stop !)) (look ! 23 refl))) (from ! (hop ! (look ! 43 refl) (stop !))) (store-raw ! 7 refl
         (LL.lawful T.the-type T′.the-laws 𝓤 H A W .typed s′ _ s-is .0)) $
@@ -273,7 +276,8 @@ module _ {M : Type 1} (𝓤 : URA M) (H : Heap 𝓤) (A : Atoms 𝓤) (W : Given
         land ! (from ! (stop !)) (init ! 45 refl (LL.lawful K.the-type K′.the-laws 𝓤 H A W .typed k _ k-is .0)) $
         -- the borrow is closed at the new state
         move ! (7 ∷ 1 ∷ 8 ∷ 9 ∷ 10 ∷ []) $ closes ! tt T.the-row s′ (w′ ∷ []) b o $
-        -- [obs; the borrow; its token; what is returned; the tokens; v's last list; true; m's; g's; local i at 43 − 2 i]
+        -- [obs; the borrow; its token; what is returned; the tokens; v's last list; true; m's; g's; local i at 43 − 2
+        -- i]
         returns ! (look ! 43 refl) $ forget ! 9 refl $ forget ! 11 refl $ forget ! 13 refl $ forget ! 15 refl $ forget ! 17 refl $ forget ! 19 refl $ forget ! 21 refl $
         forget ! 23 refl $ forget ! 25 refl $ forget ! 27 refl $ forget ! 29 refl $ forget ! 31 refl $ forget ! 33 refl $ forget ! 35 refl $ forget ! 37 refl $
         forget ! 39 refl $ forget ! 41 refl $ forget ! 43 refl $
