@@ -1,5 +1,5 @@
-//! An independent second implementation of what `01-scope.md` (called 01 in
-//! the comments) describes: "A reader and type checker for one table (at most
+//! An independent second implementation of what document 01 (the original of
+//! docs/RULES.md) describes: "A reader and type checker for one table (at most
 //! 32,768 bytes), and a step machine that runs a table under a directive list."
 //!
 //! * [`table`]: reading, faults 1 to 9.
@@ -10,7 +10,7 @@
 //! * [`gen`]: seeded tables, directive lists and cases.
 //! * [`pairs`]: two runs with different secrets.
 //!
-//! Orders 1 and 3 of `02-change-requests.md` (02) are built too: LOAD FIXED and
+//! Orders 1 and 3 of document 02 are built too: LOAD FIXED and
 //! STORE FIXED, kinds 1B and 1C, and INIT settling arrays. (Order 2 changes no
 //! answer.)
 //!
