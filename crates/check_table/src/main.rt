@@ -3,10 +3,12 @@
 // It reads at most 32,769 bytes, one more than a table may have, so that longer input is refused without being read
 // on. A read that fails is answered "refused 2 at K", K being the bytes that came before it: what did not arrive
 // whole is never accepted.
+#![tactic(auto)]
+
 use typing::Verdict;
 
 // What came on standard input: all of it (or as much as there is room for), or what came before a read failed.
-#[derive(Drop)]
+#[derive(Clone, Copy)]
 enum Input {
     Whole(usize),
     Failed(usize),

@@ -1,5 +1,7 @@
 // A small table for each fault number of document 01 that the check gives, and one that passes: the examples of
 // README.md.
+#![tactic(auto)]
+
 fn show(table: &[u8]) {
     let verdict = typing::check(table);
     let mut line = [0u8; 80];

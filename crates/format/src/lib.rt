@@ -3,6 +3,8 @@
 // Here: the numbers that records are made of, wherever they stand; bytes past the table's end count as 0. The crates
 // `head` (the records before the code, read), `layout` (what they say, read off once more) and `records` (one record
 // of code) are over these. The definitions of all four stand in specs/.
+#![tactic(auto)]
+
 ghost use Rattle.std.specs.Prelude.{◌≡◌, ◌+◌, ◌<◌};
 ghost use Rattle.model.specs.Packing.{levels_in, packed_in};
 ghost use Rattle.format.specs.Format.{byte, word16, word32, packed_at};
@@ -10,14 +12,14 @@ ghost use Rattle.format.specs.Format.{byte, word16, word32, packed_at};
 use model::{Packed, Record, Sizes};
 
 // A record with the place after it, or a fault (2, 3 or 4) with its place.
-#[derive(Drop)]
+#[derive(Clone, Copy)]
 pub enum Decoded {
     Got(Record, usize),
     Fault(u8, usize),
 }
 
 // A place to go on at, or a fault.
-#[derive(Drop)]
+#[derive(Clone, Copy)]
 pub enum To {
     At(usize),
     Fault(u8, usize),

@@ -1,4 +1,6 @@
 // The records before the code: sizes, arrays, signatures. In each: kind (3), length (2), fields (4), then 8.
+#![tactic(auto)]
+
 ghost use Rattle.std.specs.Prelude.{◌≡◌, ◌+◌};
 ghost use Rattle.format.specs.Head.{sizes_at, array_at, signature_at, arrays_at, signatures_at};
 

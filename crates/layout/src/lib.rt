@@ -1,5 +1,7 @@
 // The head of a table: where the arrays and the signatures stand, and what they say. All of it is read off the bytes
 // whenever it is wanted, and bytes past the table's end count as 0.
+#![tactic(auto)]
+
 ghost use Rattle.std.specs.Prelude.{◌≡◌, ◌+◌, ◌*◌, ◌<◌};
 ghost use Rattle.format.specs.Format.{array_place, words_at};
 ghost use Rattle.format.specs.Layout.{sizes_of, signature_place, start_of, in_of, out_of};

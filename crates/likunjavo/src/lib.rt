@@ -1,5 +1,7 @@
 // The check, the message and the run for programs in other languages: numbers and lent slices, nothing else. A slice
 // is a pointer and a length (bindings/c/likunjavo.h). No function asks anything of what it is lent.
+#![tactic(auto)]
+
 ghost use Rattle.std.specs.Prelude.{◌≡◌, [], ◌∷◌};
 ghost use Rattle.typing.specs.Check.{check_at};
 ghost use Rattle.message.specs.Shown.{part_of};

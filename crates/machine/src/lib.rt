@@ -1,4 +1,6 @@
 // Document 01, "The machine": a run of a table under a directive list.
+#![tactic(auto)]
+
 mod accesses;
 mod bytes;
 mod control;
@@ -18,14 +20,14 @@ use model::{Directive, Observation, Sizes};
 use reading::Answer;
 
 // A directive with the place after it in the list, or a bad one.
-#[derive(Drop)]
+#[derive(Clone, Copy)]
 pub enum Told {
     Got(Directive, usize),
     Bad,
 }
 
 // A directive list without fault, or the first bad directive.
-#[derive(Drop)]
+#[derive(Clone, Copy)]
 pub enum Listed {
     Good,
     Bad(usize),
@@ -33,7 +35,7 @@ pub enum Listed {
 
 // The machine's state beside registers and memory. The stack never needs more than 31 places; with a 32nd, and at the
 // front, it is copied as four whole vector registers. So the state stands first where it is a field, too.
-#[derive(Drop)]
+#[derive(Clone, Copy)]
 pub struct State {
     pub stack: [u16; 32],
     pub place: usize,
@@ -43,7 +45,7 @@ pub struct State {
 }
 
 // What a step does to registers and memory: nothing, one register, one word of an array.
-#[derive(Drop)]
+#[derive(Clone, Copy)]
 pub enum Effect {
     None,
     Register(u8, u32),
@@ -51,7 +53,7 @@ pub enum Effect {
 }
 
 // What a step does to the stack.
-#[derive(Drop)]
+#[derive(Clone, Copy)]
 pub enum Stacking {
     Same,
     Push(u16),
@@ -60,7 +62,7 @@ pub enum Stacking {
 }
 
 // Where a step leads: the state after it, with what becomes of the stack in place of the stack.
-#[derive(Drop)]
+#[derive(Clone, Copy)]
 pub struct Next {
     pub place: usize,
     pub stacking: Stacking,
@@ -69,7 +71,7 @@ pub struct Next {
 }
 
 // What a step would do, worked out before anything changes. Where stop is not 0, that is all it says.
-#[derive(Drop)]
+#[derive(Clone, Copy)]
 pub struct Plan {
     pub stop: u8,
     pub next: Next,
@@ -78,14 +80,14 @@ pub struct Plan {
 }
 
 // A place that follows a CALL, with the CALL's mark.
-#[derive(Drop)]
+#[derive(Clone, Copy)]
 pub enum Site {
     Marked(bool),
     Nowhere,
 }
 
 // What the step under one directive did: stop is 0 where it was made. Then the state after it, and the bytes observed.
-#[derive(Drop)]
+#[derive(Clone, Copy)]
 pub struct Acted {
     pub state: State,
     pub stop: u8,
@@ -93,14 +95,14 @@ pub struct Acted {
 }
 
 // What a step answers where its state is lent: stop is 0 where it was made; the bytes observed.
-#[derive(Drop)]
+#[derive(Clone, Copy)]
 pub struct Took {
     pub stop: u8,
     pub seen: usize,
 }
 
 // One turn: the same, with the next directive's place.
-#[derive(Drop)]
+#[derive(Clone, Copy)]
 pub struct Turn {
     pub state: State,
     pub stop: u8,
@@ -109,7 +111,7 @@ pub struct Turn {
 }
 
 // How a run ended: the stop, the place it stands at, the steps taken, misspeculating, the flag.
-#[derive(Drop)]
+#[derive(Clone, Copy)]
 pub struct Stop {
     pub number: u8,
     pub place: usize,
@@ -119,7 +121,7 @@ pub struct Stop {
 }
 
 // What a run answers.
-#[derive(Drop)]
+#[derive(Clone, Copy)]
 pub enum Outcome {
     Refused(u8, usize),
     Stopped(Stop),

@@ -1,1 +1,2 @@
 // The marked cases of document 01 stand in specs/.
+#![tactic(auto)]

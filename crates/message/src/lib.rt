@@ -1,9 +1,11 @@
 // Document 01, "Numbers given back": the bytes that a fault message shows.
+#![tactic(auto)]
+
 ghost use Rattle.std.specs.Prelude.{◌≡◌, ℕ, ◌+◌, ◌-◌, ◌≤◌, min, length, take, drop};
 ghost use Rattle.message.specs.Shown.{kind_length, directive_length, table_count, part_of};
 
 // A part of the table or of the directive list: where it begins, and how many bytes it has.
-#[derive(Drop)]
+#[derive(Clone, Copy)]
 pub enum Part {
     Table(usize, usize),
     List(usize, usize),

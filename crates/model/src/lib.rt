@@ -1,8 +1,9 @@
 // The words of document 01 that every crate shares: statuses, packed environments, records.
 // What they mean stands in specs/, in 01's order; the theorems over them too.
+#![tactic(auto)]
 
 // The numbers of the sizes record.
-#[derive(Drop)]
+#[derive(Clone, Copy)]
 pub struct Sizes {
     pub registers: u8,
     pub arrays: u8,
@@ -10,7 +11,7 @@ pub struct Sizes {
 }
 
 // The flag status. Outdated(r, true) is 01's outdated(r, 1), "r is not zero".
-#[derive(Drop)]
+#[derive(Clone, Copy)]
 pub enum Status {
     Unknown,
     Updated,
@@ -18,7 +19,7 @@ pub enum Status {
 }
 
 // An environment as it stands in a table: status byte, two bits a register, two bits an array.
-#[derive(Drop)]
+#[derive(Clone, Copy)]
 pub struct Packed {
     pub status: u8,
     pub registers: u32,
@@ -26,7 +27,7 @@ pub struct Packed {
 }
 
 // A record that goes on to the next one and touches registers, memory and flag alone.
-#[derive(Drop)]
+#[derive(Clone, Copy)]
 pub enum Simple {
     Const {
         dest: u8,
@@ -76,7 +77,7 @@ pub enum Simple {
 }
 
 // A decoded record of code.
-#[derive(Drop)]
+#[derive(Clone, Copy)]
 pub enum Record {
     Do(Simple),
     Call {
@@ -104,7 +105,7 @@ pub enum Record {
 
 // How far a walk over the records of a block came: past one record, or one block with its ends; to the record that
 // closes the block; or to a fault.
-#[derive(Drop)]
+#[derive(Clone, Copy)]
 pub enum Walked {
     Next(usize),
     Shut(usize),
@@ -112,14 +113,14 @@ pub enum Walked {
 }
 
 // What the typing of a table answers: every function types, or the first fault.
-#[derive(Drop)]
+#[derive(Clone, Copy)]
 pub enum Typing {
     Passes,
     Fault(u8, usize),
 }
 
 // A directive: what the machine's surroundings choose for one step.
-#[derive(Drop)]
+#[derive(Clone, Copy)]
 pub enum Directive {
     Plain,
     Branch(bool),
@@ -128,7 +129,7 @@ pub enum Directive {
 }
 
 // An observation: what a step shows. Way(true) is 01's branch 1, "the register is not zero".
-#[derive(Drop)]
+#[derive(Clone, Copy)]
 pub enum Observation {
     Nothing,
     Way(bool),
@@ -136,14 +137,14 @@ pub enum Observation {
 }
 
 // The word that a LOAD or a STORE touches, by array and index; or the stop instead.
-#[derive(Drop)]
+#[derive(Clone, Copy)]
 pub enum Access {
     Word(u8, usize),
     Stop(u8),
 }
 
 // How a block ends: at the place of the record that closes it, or with a fault.
-#[derive(Drop)]
+#[derive(Clone, Copy)]
 pub enum Ended {
     Shut(usize),
     Fault(u8, usize),

@@ -1,4 +1,6 @@
 // Document 01, "Numbers given back", 1 to 9: the forward reading of a table.
+#![tactic(auto)]
+
 ghost use Rattle.std.specs.Prelude.{◌≡◌};
 ghost use Rattle.reading.specs.Reading.{read_at, parts_at};
 
@@ -8,7 +10,7 @@ use model::Sizes;
 mod code;
 
 // What the reading of a table answers: its sizes, or the first fault with its place.
-#[derive(Drop)]
+#[derive(Clone, Copy)]
 pub enum Answer {
     Reads(Sizes),
     Refused(u8, usize),

@@ -1,5 +1,7 @@
 // One record of code. This is the one place where a kind's byte, its length and its fields are given: code_length has
 // the lengths, decode names the reader of each kind, and a reader tests the fields in their order.
+#![tactic(auto)]
+
 ghost use Rattle.std.specs.Prelude.{◌≡◌, ◌+◌, ◌≤◌, ◌<◌, length, ltb};
 ghost use Rattle.format.specs.Format.{code_length, words_at, decode_at, row_at};
 ghost use Rattle.format.specs.Layout.{record_of, next_of};
@@ -9,7 +11,7 @@ use layout::words_at;
 use model::{Record, Simple, Sizes};
 
 // A record of the code, and where the next one is due.
-#[derive(Drop)]
+#[derive(Clone, Copy)]
 pub struct Met {
     pub record: Record,
     pub next: usize,

@@ -4,6 +4,8 @@
 //
 // The files stdin and stdout beside src/ are made by the second implementation, tests/second/src/bin/run_examples.rs:
 // the cases, and what its own machine does with them.
+#![tactic(auto)]
+
 mod numbers;
 mod show;
 

@@ -1,1 +1,2 @@
 // Demand 3 stands in specs/.
+#![tactic(auto)]

@@ -1,4 +1,6 @@
 // Document 01, "Typing, record by record": the check of a table.
+#![tactic(auto)]
+
 ghost use Rattle.std.specs.Prelude.{◌≡◌};
 ghost use Rattle.typing.specs.Check.{check_at};
 
@@ -11,7 +13,7 @@ mod walks;
 
 // An environment: a status, and the levels of the registers and of the arrays, packed two bits a slot. The seven
 // bytes of a table hold as much, but for the status: there it is never outdated.
-#[derive(Drop)]
+#[derive(Clone, Copy)]
 pub struct WordEnv {
     pub status: Status,
     pub registers: u32,
@@ -19,14 +21,14 @@ pub struct WordEnv {
 }
 
 // How far the walk of a record came, and the environment there. At a fault the environment says nothing.
-#[derive(Drop)]
+#[derive(Clone, Copy)]
 pub struct Walk {
     pub to: Walked,
     pub env: WordEnv,
 }
 
 // How the walk of a block ended, and the environment there; at a fault it says nothing.
-#[derive(Drop)]
+#[derive(Clone, Copy)]
 pub struct BlockEnd {
     pub to: Ended,
     pub env: WordEnv,
@@ -34,7 +36,7 @@ pub struct BlockEnd {
 
 // What the check of a table answers: how many functions it accepts in how many bytes; or the first fault with its
 // place.
-#[derive(Drop)]
+#[derive(Clone, Copy)]
 pub enum Verdict {
     Accepted(u8, usize),
     Refused(u8, usize),
