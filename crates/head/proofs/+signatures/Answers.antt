@@ -1,0 +1,26 @@
+use mathlib.Core.Path.{sym, ◌∙◌}
+use Rattle.format.specs.Head.{signatures_at}
+use Rattle.head.proofs.Laws.{signatures_is}
+use borrow.Author.Rules.{rules}
+use Prim.Native.Nat.{ℕ, ◌<◌}
+use borrow.Fn.PlainCycle.{Measures, is, falls, and}
+use Rattle.std.proofs.Common.{◌≡◌, ◌+◌, ◌-◌, ◌*◌, ◌≤◌, length, ◌/◌, ◌%◌, Bool, true, false, nat_eq, nat_lt, List, [], ◌∷◌, ◌++◌, slice_index_or, slice_set, bit_and, bit_or, Fits, w8, w32, w64, Bor, MutBor}
+use Rattle.format.specs.Head.{sizes_at, array_at, signature_at, arrays_at}
+use Rattle.head.proofs.+signatures.Goals as goal
+
+pub returns-then-n-eq0 : goal.returns-then-n-eq0
+unfolding signatures_at
+returns-then-n-eq0 t c =
+    simp c.if-n-eq0.true
+
+pub returns-in-At : goal.returns-in-At
+returns-in-At t c =
+    let h = c.if-n-eq0.false in
+    let e = sym c.signature-one.ensures ∙ c.in-At.is in
+    simp (signatures_is, e) c.signatures.ensures
+
+pub returns-in-Fault : goal.returns-in-Fault
+returns-in-Fault t c =
+    let h = c.if-n-eq0.false in
+    let e = sym c.signature-one.ensures ∙ c.in-Fault.is in
+    simp (signatures_is, e)
