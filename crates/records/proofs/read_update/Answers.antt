@@ -1,0 +1,28 @@
+use Rattle.model.specs.Tests.{pick_same}
+use borrow.Author.Tests.{lt-ltb, le-ltb}
+use Rattle.format.specs.Format.{row_at}
+use Rattle.records.proofs.Laws.{whole}
+use borrow.Author.Rules.{rules}
+use Rattle.std.proofs.Common.{◌≡◌, ◌+◌, ◌≤◌, ◌<◌, length, ltb, ℕ, ◌-◌, ◌*◌, ◌/◌, ◌%◌, Bool, true, false, nat_eq, List, [], ◌∷◌, ◌++◌, slice_index_or, slice_set, bit_and, bit_or, Fits, w8, w32, w64, Bor, MutBor}
+use Rattle.format.specs.Format.{code_length, words_at, decode_at}
+use Rattle.format.specs.Layout.{record_of, next_of}
+use Rattle.records.proofs.read_update.Goals as goal
+
+pub returns-then-z-register : goal.returns-then-z-register
+unfolding row_at
+returns-then-z-register c =
+    let h1 = c.if-z-register.true in
+    simp (whole c.args.t.now c.args.at 3 c.requires, lt-ltb, le-ltb)
+
+pub returns-then-sense-ge2 : goal.returns-then-sense-ge2
+unfolding row_at
+returns-then-sense-ge2 c =
+    let h1 = c.if-sense-ge2.true in
+    simp (whole c.args.t.now c.args.at 3 c.requires, le-ltb, pick_same)
+
+pub returns : goal.returns
+unfolding row_at
+returns c =
+    let h1 = c.if-sense-ge2.false in
+    let h2 = c.if-z-register.false in
+    simp (whole c.args.t.now c.args.at 3 c.requires, lt-ltb, le-ltb)
