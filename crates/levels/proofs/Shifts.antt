@@ -5,7 +5,8 @@ use mathlib.Core.Path.{◌≡◌, sym, ap, ◌∙◌}
 use lib.Bits.{bit_and, bit_xor, xor_lt}
 use lib.Pow.{pow_pos, shl_exact}
 use Rattle.model.specs.Packing.{slot}
-use Rattle.model.specs.theory.Words.{lows, put_word, slot_is, slot_small, bits, mask_lows}
+use Rattle.model.specs.theory.Words.{lows, put_word}
+use Rattle.model.proofs.theory.Words.{slot_is, slot_small, bits, mask_lows}
 
 slots : (i : ℕ) → 2 ^ (2 * i) ≡ 4 ^ i
 slots i = let e : 2 * i ≡ i + i = omega arith in ap (λ (k : ℕ). 2 ^ k) e ∙ sym (bits i)

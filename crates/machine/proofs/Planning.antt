@@ -8,7 +8,7 @@ use lib.Bits.{bit_and, bit_or, bit_xor}
 use lib.ListN.{get_or-eq_default}
 use borrow.Author.Tests.{lt-leb}
 use Rattle.model.specs.Tests.{pick, pick_ind}
-use Rattle.model.specs.theory.Alike.{Touches, access_touches}
+use Rattle.model.proofs.theory.Alike.{Touches, access_touches}
 use Rattle.model.specs.Table.{Table}
 use Rattle.model.specs.Sites.{home_of, site}
 use Rattle.model.specs.Machine.{Ctl, Data, reg, words_of, word_at, wrote, stored, flagged, operate, Work, halt, did, Stop, Went, plain, onward, by_access, pop, in_range, strayed, access, work, wrong, right, step_of, step}

@@ -7,10 +7,11 @@ use Rattle.model.specs.Table.{Table, entry}
 use Rattle.model.specs.Rules.{reading}
 use Rattle.model.specs.Records.{length_pos}
 use Rattle.model.specs.InOrder.{Chain, chain_le}
-use Rattle.model.specs.theory.Functions.{ret_alone}
-use Rattle.model.specs.theory.Places.{spans, look, between, no_return}
-use Rattle.model.specs.theory.Code.{Known, At, enters_at, depth}
-use Rattle.model.specs.theory.Stands.{Stands, EndStands, stack_bound, run_stands}
+use Rattle.model.proofs.theory.Functions.{ret_alone}
+use Rattle.model.proofs.theory.Places.{spans, look, between, no_return}
+use Rattle.model.proofs.Rules.{reading_laws}
+use Rattle.model.proofs.theory.Code.{Known, At, enters_at, depth}
+use Rattle.model.proofs.theory.Stands.{Stands, EndStands, stack_bound, run_stands}
 use Rattle.model.specs.Machine.{Ctl, Data, Final, final, run, start_ctl}
 use Rattle.model.specs.declared.Sizes.{Sizes}
 use Rattle.model.specs.declared.Directive.{Directive}
@@ -56,7 +57,7 @@ module _ (t : Table) (k : Known t) where
       }
 
   pub start_stands : (mis : Bool) → Stands t k (start_ctl t mis)
-  start_stands mis = record { function = entry t; here = enters_at t k reading k.blocks (entry t) k.some_function; frames = tt }
+  start_stands mis = record { function = entry t; here = enters_at t k reading k.blocks reading_laws (entry t) k.some_function; frames = tt }
 
   abbrev pub EndStanding : Final → Type 0
   EndStanding (final j n c x os) = Standing t c

@@ -2,12 +2,10 @@
 -- example (secure's Gauge) speak of them.
 use Rattle.std.specs.Prelude.{ℕ, refl}
 use Rattle.std.proofs.Common.{arith, le_refl}
-use Rattle.model.specs.Levels.{Env, Within, within_refl}
+use Rattle.model.specs.Levels.{Env, Within}
 use Rattle.model.specs.Table.{Table}
 use Rattle.model.specs.Blocks.{Rules, Every}
 use Rattle.model.specs.Rules.{settle, after, typing_by, Typed}
-use Rattle.model.specs.theory.Settled.{settle_down}
-use Rattle.model.specs.theory.Monotone.{function_below}
 use Rattle.model.specs.declared.Status.TheVariants.{Updated}
 use Rattle.model.specs.declared.Simple.{Simple}
 use Rattle.model.specs.declared.Simple.TheVariants.{Const, Op, Select, Load, Store, Init, Update, Protect, LoadFixed, StoreFixed}
@@ -35,20 +33,3 @@ typing_before t = typing_by t (after_before t.arrays)
 -- the rules before order 3 type every function of the table
 abbrev pub TypedBefore : Table → Type 0
 TypedBefore t = Every t (typing_before t)
-
--- they left nothing lower than the rules do now
-higher : (n m : ℕ) (s : Simple) (E : Env) → Within n m (after m s E) (after_before m s E)
-higher n m (Const d v) E = within_refl n m _
-higher n m (Op d o l r) E = within_refl n m _
-higher n m (Select d c y k) E = within_refl n m _
-higher n m (Load d a i) E = within_refl n m _
-higher n m (Store a i s) E = within_refl n m _
-higher n m Init E = record { status = refl; regs = λ i _. le_refl _; arrays = λ a _. omega (arith, settle_down (E.arrays a)) }
-higher n m (Update r s) E = within_refl n m _
-higher n m (Protect d s) E = within_refl n m _
-higher n m (LoadFixed d a i) E = within_refl n m _
-higher n m (StoreFixed a i s) E = within_refl n m _
-
--- EVERY TABLE THAT THEY TYPE, THE RULES TYPE NOW
-pub still_typed : (t : Table) → TypedBefore t → Typed t
-still_typed t d f l = function_below t (after_before t.arrays) (higher t.registers t.arrays) f (d f l)

@@ -10,11 +10,7 @@ use Rattle.model.specs.declared.Record.TheVariants.{If, Else, Endif, While, Endw
 pub record Rules : Type 1 where
   pub Env : Type 0
   pub Within : Env → Env → Type 0
-  pub within_refl : (E : Env) → Within E E
-  pub within_trans : (E F G : Env) → Within E F → Within F G → Within E G
   pub join : Env → Env → Env
-  pub join_left : (E F : Env) → Within E (join E F)
-  pub join_right : (E F : Env) → Within F (join E F)
   pub Needs : ℕ → Record → Env → Type 0  -- what a single record, in a function, asks of the environment
   pub after : Record → Env → Env  -- the environment after it
   pub Public : Env → ℕ → Type 0  -- what a guard asks
@@ -22,6 +18,13 @@ pub record Rules : Type 1 where
   pub loop : Packed → Env  -- the environment that a WHILE carries
   pub enter : ℕ → Env
   pub leave : ℕ → Env
+
+-- what has to hold of rules for what is said over all of them: within is an order, the join is above both
+pub record Laws (R : Rules) : Type 0 where
+  pub within_refl : (E : R.Env) → R.Within E E
+  pub within_trans : (E F G : R.Env) → R.Within E F → R.Within F G → R.Within E G
+  pub join_left : (E F : R.Env) → R.Within E (R.join E F)
+  pub join_right : (E F : R.Env) → R.Within F (R.join E F)
 
 module _ (t : Table) (R : Rules) where
   -- in function g, the records from p up to q take E to F

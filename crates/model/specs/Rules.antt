@@ -1,7 +1,7 @@
 -- Document 01, "Typing, record by record". IF, WHILE and RETURN stand in Blocks.
 use Rattle.std.specs.Prelude.{ℕ, ◌<◌, max, min, ◌≡◌, Bool, true, false, eqb, leb, ltb}
 use Rattle.model.specs.Tests.{pick, put}
-use Rattle.model.specs.Levels.{Env, Within, join, within_refl, within_trans, join_left, join_right}
+use Rattle.model.specs.Levels.{Env, Within, join}
 use Rattle.model.specs.Packing.{env_of}
 use Rattle.model.specs.Records.{by_single}
 use Rattle.model.specs.Table.{Table}
@@ -123,11 +123,7 @@ abbrev pub typing_by : Table → (rule : Simple → Env → Env) → Rules
 typing_by t rule = record {
   Env = Env;
   Within = Within t.registers t.arrays;
-  within_refl = within_refl t.registers t.arrays;
-  within_trans = within_trans t.registers t.arrays;
   join = join;
-  join_left = join_left t.registers t.arrays;
-  join_right = join_right t.registers t.arrays;
   Needs = λ g. NeedsOf t;
   after = after_by t rule;
   Public = λ E r. E.regs r ≡ 0;
@@ -153,11 +149,7 @@ abbrev pub reading : Rules
 reading = record {
   Env = Unit {0};
   Within = λ _ _. Unit {0};
-  within_refl = λ _. tt;
-  within_trans = λ _ _ _ _ _. tt;
   join = λ _ _. tt;
-  join_left = λ _ _. tt;
-  join_right = λ _ _. tt;
   Needs = λ g i _. Lower g i;
   after = λ _ _. tt;
   Public = λ _ _. Unit {0};

@@ -1,14 +1,2 @@
-pub mod Settled
 pub mod Words
-pub mod Monotone
-pub mod Flow
-pub mod Places
-pub mod Fixed
-pub mod Passes
-pub mod Whole
-pub mod OneFault
-pub mod Functions
-pub mod Code
-pub mod Stands
 pub mod Alike
-pub mod Secure

@@ -13,7 +13,8 @@ use borrow.Author.Tests.{eq-eqb}
 use Rattle.model.specs.Table.{entry}
 use Rattle.model.specs.Rules.{Typed}
 use Rattle.model.specs.Machine.{Ctl, words_of, address, Final, final, run, start_ctl}
-use Rattle.model.specs.TwoRuns.{Agree, SameShown, secure}
+use Rattle.model.specs.TwoRuns.{Agree, SameShown}
+use Rattle.model.proofs.TwoRuns.{secure}
 use Rattle.model.specs.declared.Observation.{Observation}
 use Rattle.format.specs.Format.{words_from}
 use Rattle.format.specs.Layout.{sizes_of, table_of}

@@ -4,7 +4,8 @@
 use Rattle.std.specs.Prelude.{ℕ, zero, suc, ◌<◌, ◌≡◌, refl, List, [], ◌∷◌}
 use Rattle.std.proofs.Common.{arith}
 use Rattle.model.specs.Tests.{below}
-use Rattle.model.specs.Levels.{Env, join_status, same_status, within, within_is}
+use Rattle.model.specs.Levels.{Env, join_status, same_status, within}
+use Rattle.model.proofs.Levels.{within_is}
 use Rattle.model.specs.Packing.{slot, levels_in, packed_in}
 use Rattle.model.specs.Table.{Table}
 use Rattle.model.specs.Blocks.{TypesFunction, done, one}
@@ -12,7 +13,7 @@ use Rattle.model.specs.Rules.{kill, guard_status, call_status, settle, beside}
 use Rattle.model.specs.Before.{typing_before}
 use Rattle.model.specs.Faults.{FirstFault, on_the_way, past, fails}
 use Rattle.model.specs.Walk.{type_block, type_instr, type_function}
-use Rattle.model.specs.theory.Passes.{past_single}
+use Rattle.model.proofs.theory.Passes.{past_single}
 use Rattle.model.specs.Decide.{number_of}
 use Rattle.model.specs.Typing.{type_from}
 use Rattle.format.specs.Format.{row_at, decode_at, words_from}

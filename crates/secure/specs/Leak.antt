@@ -4,7 +4,8 @@
 use Rattle.std.specs.Prelude.{ℕ, zero, suc, ◌<◌, ◌≤◌, ◌≡◌, refl, true, false, List, [], ◌∷◌, get_or, replicate}
 use Rattle.std.proofs.Common.{arith, sym, ap, ◌∙◌}
 use Rattle.model.specs.Tests.{below}
-use Rattle.model.specs.Levels.{Env, join, join_status, same_status, within, within_is}
+use Rattle.model.specs.Levels.{Env, join, join_status, same_status, within}
+use Rattle.model.proofs.Levels.{within_is}
 use Rattle.model.specs.Packing.{slot, levels_in, packed_in}
 use Rattle.model.specs.Table.{Table, entry}
 use Rattle.model.specs.Blocks.{Rules, TypesFunction, Every, done, one, branch}

@@ -11,7 +11,8 @@ use Rattle.model.specs.Tests.{pick, put, pick_ind}
 use Rattle.model.specs.Levels.{levels_within}
 use Rattle.model.specs.Packing.{slot}
 use Rattle.model.specs.Rules.{settle, beside}
-use Rattle.model.specs.theory.Words.{NoThree, Levelled, lows, join_words, within_words, settle_word, put_word, slot_small, bits, lows_lt, lows_levels, slot_lows, join_words_lem, within_words_lem, settle_word_lem, put_word_lem}
+use Rattle.model.specs.theory.Words.{NoThree, Levelled, lows, join_words, within_words, settle_word, put_word}
+use Rattle.model.proofs.theory.Words.{slot_small, bits, lows_lt, lows_levels, slot_lows, join_words_lem, within_words_lem, settle_word_lem, put_word_lem}
 
 -- one slot
 pub put_slot : (w i v : ℕ) {r : ℕ} → i < 16 → v < 4 → r ≡ pick (ltb i 16) (put_word w i (v % 4)) w → slot r ≡ put (slot w) i v

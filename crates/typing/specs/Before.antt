@@ -1,6 +1,7 @@
 -- Order 3: "Tables that passed before still pass, and that is to be shown."
 use Rattle.std.specs.Prelude.{ℕ, ◌≡◌, refl, List, length}
-use Rattle.model.specs.Before.{TypedBefore, still_typed}
+use Rattle.model.specs.Before.{TypedBefore}
+use Rattle.model.proofs.Before.{still_typed}
 use Rattle.format.specs.Layout.{sizes_of, table_of}
 use Rattle.typing.specs.declared.Verdict.TheVariants.{Accepted}
 use Rattle.typing.specs.Check.{check_at}

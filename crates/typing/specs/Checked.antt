@@ -5,9 +5,10 @@ use Rattle.std.proofs.Math.Path.{refl}
 use Rattle.std.proofs.Common.{sym, ap, subst, ◌∙◌}
 use Rattle.model.specs.Rules.{typing, Typed}
 use Rattle.model.specs.Faults.{FirstFault}
-use Rattle.model.specs.theory.OneFault.{one_fault, typed_faultless}
+use Rattle.model.proofs.theory.OneFault.{one_fault, typed_faultless}
 use Rattle.model.specs.Decide.{number_of}
-use Rattle.model.specs.Typing.{type_all, Says, type_says, passes_typed}
+use Rattle.model.specs.Typing.{type_all, Says}
+use Rattle.model.proofs.WholeTable.{type_says, passes_typed}
 use Rattle.model.specs.declared.Sizes.{Sizes}
 use Rattle.model.specs.declared.Typing.{Typing}
 use Rattle.model.specs.declared.Typing.TheVariants.{Passes, Fault}

@@ -1,5 +1,5 @@
 use mathlib.Core.Path.{sym}
-use Rattle.model.specs.theory.Words.{slot_past}
+use Rattle.model.proofs.theory.Words.{slot_past}
 use Rattle.levels.proofs.Shifts.{shifted_down}
 use borrow.Author.Rules.{rules}
 use Rattle.std.proofs.Common.{◌≡◌, ◌%◌, max, min, ltb, ℕ, ◌+◌, ◌-◌, ◌*◌, ◌<◌, ◌≤◌, length, ◌/◌, Bool, true, false, nat_eq, List, [], ◌∷◌, ◌++◌, slice_index_or, slice_set, bit_and, bit_or, Fits, w8, w32, w64, Bor, MutBor}

@@ -1,5 +1,6 @@
 use Rattle.model.specs.InOrder.{code_from}
-use Rattle.model.specs.Sites.{mark_in, mark_here, mark_on, mark_end}
+use Rattle.model.specs.Sites.{mark_in}
+use Rattle.model.proofs.Sites.{mark_here, mark_on, mark_end}
 use Rattle.model.specs.Records.{length_pos}
 use Rattle.format.specs.Layout.{table_with, next_on}
 use Rattle.std.proofs.Common.{◌≡◌, ℕ, ◌-◌, length, sym, refl, ap, ◌∙◌, arith, rules}

@@ -1,5 +1,5 @@
 use native.Mathlib.Omega.{arith}
-use Rattle.model.specs.theory.Words.{slot_small}
+use Rattle.model.proofs.theory.Words.{slot_small}
 use borrow.Author.Rules.{rules}
 use Rattle.typing.proofs.rules.after_load_fixed.Statement.{statement}
 use Rattle.typing.proofs.rules.after_load_fixed.Tie as tie

@@ -1,7 +1,7 @@
 use Prim.Native.Nat.{◌<◌}
 use native.Mathlib.Omega.{arith}
 use mathlib.Core.Path.{◌∙◌}
-use Rattle.model.specs.theory.Words.{slot_small}
+use Rattle.model.proofs.theory.Words.{slot_small}
 use Rattle.model.specs.Packing.{slot}
 use Rattle.typing.proofs.Packed.{put_slot}
 use borrow.Author.Rules.{rules}

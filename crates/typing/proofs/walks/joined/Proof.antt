@@ -4,7 +4,7 @@ use borrow.Author.Rules.{rules}
 use Rattle.model.specs.Walk.{Onward}
 use Rattle.typing.specs.Walks.{join_walk, Close}
 use Rattle.typing.specs.Envs.{view_env}
-use Rattle.model.specs.theory.Whole.{NoThrees}
+use Rattle.model.proofs.theory.Whole.{NoThrees}
 use Rattle.typing.proofs.Turns.{halts, seen_end, at_shut}
 use Rattle.typing.proofs.walks.joined.Statement.{statement}
 use Rattle.typing.proofs.walks.joined.Tie as tie

@@ -9,12 +9,13 @@ use Rattle.std.proofs.Math.Decide.{ℕ_discrete, dec_lt}
 use Rattle.model.specs.Tests.{pick, same}
 use Rattle.model.specs.Table.{Table}
 use Rattle.model.specs.InOrder.{Chain, stay, on, chain_le, chain_trans, past, meet, In, Touch, code, listed, listed_met, touching}
-use Rattle.model.specs.Sites.{home_of, mark_in, site, mark_listed, call_marked}
+use Rattle.model.specs.Sites.{home_of, mark_in, site}
+use Rattle.model.proofs.Sites.{mark_listed, call_marked}
 use Rattle.model.specs.declared.Record.{Record}
 use Rattle.model.specs.declared.Record.TheVariants.{Call, Return}
 use Rattle.model.specs.Rules.{reading}
 use Rattle.model.specs.Blocks.{Every}
-use Rattle.model.specs.theory.Places.{spans, covers, look, between, Log}
+use Rattle.model.proofs.theory.Places.{spans, covers, look, between, Log}
 
 -- q follows a CALL of f, marked m, in one of the functions
 pub record Called (t : Table) (f q : ℕ) (m : Bool) : Type 0 where

@@ -2,12 +2,13 @@
 use Rattle.std.specs.Prelude.{ℕ, ◌≤◌, ◌<◌, max, ◌≡◌, refl, Bool, true, false, ltb}
 use Rattle.std.proofs.Common.{arith, le_refl, subst}
 use Rattle.model.specs.Tests.{pick, same, test}
-use Rattle.model.specs.Levels.{Env, Covers, Within, join, within_refl, within_trans, join_left, join_right, join_least}
+use Rattle.model.specs.Levels.{Env, Covers, Within, join}
+use Rattle.model.proofs.Levels.{within_refl, within_trans, join_left, join_right, join_least}
 use Rattle.model.specs.Records.{SimpleFits, Fits, by_singles}
 use Rattle.model.specs.Packing.{env_of}
 use Rattle.model.specs.Table.{Table}
 use Rattle.model.specs.Rules.{kill, guard_status, settle, written, raised, guarded, spilled, beside, Needs, after, NeedsOf, returned, after_by, after_of, typing_by, typing}
-use Rattle.model.specs.theory.Settled.{settle_mono}
+use Rattle.model.proofs.theory.Settled.{settle_mono}
 use Rattle.model.specs.Blocks.{Types, done, one, branch, loop, TypesFunction}
 use Rattle.model.specs.declared.Status.{Status}
 use Rattle.model.specs.declared.Status.TheVariants.{Unknown, Updated, Outdated}

@@ -10,7 +10,8 @@ use Rattle.model.specs.Packing.{env_of, levels_in, packed_in}
 use Rattle.model.specs.Records.{SimpleFits, Fits, Keeps, by_single_lem}
 use Rattle.model.specs.Table.{Table}
 use Rattle.model.specs.Rules.{settle, beside, written, raised, guarded, after, after_of, typing}
-use Rattle.model.specs.theory.Words.{NoThree, Levelled, levels_in_lem}
+use Rattle.model.specs.theory.Words.{NoThree, Levelled}
+use Rattle.model.proofs.theory.Words.{levels_in_lem}
 use Rattle.model.specs.Decide.{typing_tests, meets_of}
 use Rattle.model.specs.Walk.{Walking, Onward, Closed, Halt, Ending, Reached, Failed, on_next, on_shut, if_with, while_with, instr_with, type_block, type_instr}
 use Rattle.model.specs.declared.Packed.{Packed}

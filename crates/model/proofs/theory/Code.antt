@@ -8,11 +8,11 @@ use Rattle.model.specs.InOrder.{Chain, chain_le}
 use Rattle.model.specs.Table.{Table, entry}
 use Rattle.model.specs.declared.Record.{Record}
 use Rattle.model.specs.declared.Record.TheVariants.{Call, Return}
-use Rattle.model.specs.Blocks.{Rules, Every}
+use Rattle.model.specs.Blocks.{Rules, Laws, Every}
 use Rattle.model.specs.Rules.{reading, Lower}
-use Rattle.model.specs.theory.Flow.{To, Site, Flow, Flows, Frames}
-use Rattle.model.specs.theory.Functions.{Called, edge, site_called, ret_alone}
-use Rattle.model.specs.theory.Places.{Log, All, Here, here, covers, needs, no_return, between, look, each, first, flows, Enters, FlowsAt}
+use Rattle.model.proofs.theory.Flow.{To, Site, Flow, Flows, Frames}
+use Rattle.model.proofs.theory.Functions.{Called, edge, site_called, ret_alone}
+use Rattle.model.proofs.theory.Places.{Log, All, Here, here, covers, needs, no_return, between, look, each, first, flows, Enters, FlowsAt}
 
 -- what reading found out
 pub record Known (t : Table) : Type 0 where
@@ -40,8 +40,8 @@ module _ (t : Table) (reads : Known t) (R : Rules) (typed : Every t R) where
   abbrev logged : (f : ℕ) (l : f < t.functions) → All t R (At f) (typed f l).body
   logged f l = each t R (At f) (typed f l).body (λ c G k. (l, inl k))
 
-  pub enters_at : (f : ℕ) → f < t.functions → To t R At f (t.start f) (R.enter f)
-  enters_at f l = first t R At f (typed f l).body (logged f l) (l, inr (refl, refl))
+  pub enters_at : Laws R → (f : ℕ) → f < t.functions → To t R At f (t.start f) (R.enter f)
+  enters_at laws f l = first t R At f laws (typed f l).body (logged f l) (l, inr (refl, refl))
 
   pub lower_at : (g c f : ℕ) (m : Bool) (E : R.Env) → At g c E → t.rec c ≡ Call f m → f < g
   lower_at g c f m E (l, inl k) e =
@@ -56,11 +56,11 @@ module _ (t : Table) (reads : Known t) (R : Rules) (typed : Every t R) where
       go (inl w) = record { caller = s.caller; call = s.call; env = w.0; here = (s.function, inl w.1); is = s.is; follows = s.follows }
       go (inr h) = absurd (omega (arith, chain_le t h, s.inside))
 
-  pub flows_at : Flows t R At
-  flows_at f p E (l, inl k) =
-      look t R (FlowsAt t R At f) (typed f l).body (flows t R At f (typed f l).body (logged f l)
-      (each t R (Enters t R At f) (typed f l).body (λ c G j g m e. enters_at g (omega (arith, lower_at f c g m G (l, inl j) e)))) (l, inr (refl, refl))) p E k
-  flows_at f p E (l, inr h) = here (λ c G. Flow t R At f c G (t.rec c)) (t.ret f) p (typed f l).last E
+  pub flows_at : Laws R → Flows t R At
+  flows_at laws f p E (l, inl k) =
+      look t R (FlowsAt t R At f) (typed f l).body (flows t R At f laws (typed f l).body (logged f l)
+      (each t R (Enters t R At f) (typed f l).body (λ c G j g m e. enters_at laws g (omega (arith, lower_at f c g m G (l, inl j) e)))) (l, inr (refl, refl))) p E k
+  flows_at laws f p E (l, inr h) = here (λ c G. Flow t R At f c G (t.rec c)) (t.ret f) p (typed f l).last E
       (rw (typed f l).returns ((typed f l).fits, λ q m e. site_at f q m (site_called t reads.blocks reads.touch f q m l e))) h
 
   -- the stack never needs more places than there are functions below the entry

@@ -16,8 +16,9 @@ use Rattle.model.specs.declared.Observation.{Observation}
 use Rattle.model.specs.declared.Observation.TheVariants.{Nothing}
 use Rattle.model.specs.Rules.{reading}
 use Rattle.model.specs.Machine.{Ctl, Data, Work, halt, did, Stepped, Stop, Went, reg, onward, to, pop, work, plain, fork, wrong, right, back, step_of, step, size, Final, final, observed, after_step, ended, run}
-use Rattle.model.specs.theory.Flow.{To, Site, Flow, Frames}
-use Rattle.model.specs.theory.Code.{Known, At, flows_at, depth}
+use Rattle.model.proofs.theory.Flow.{To, Site, Flow, Frames}
+use Rattle.model.proofs.Rules.{reading_laws}
+use Rattle.model.proofs.theory.Code.{Known, At, flows_at, depth}
 
 module _ (t : Table) (reads : Known t) where
   abbrev Place : ℕ → ℕ → Unit {0} → Type 0
@@ -40,7 +41,7 @@ module _ (t : Table) (reads : Known t) where
   onward_stands (did x o) c s = s
 
   site_on : (f q : ℕ) (m : Bool) (s : Site t reading Place f q m) → On s.caller q
-  site_on f q m s = rw s.follows (subst (Flow t reading Place s.caller s.call s.env) s.is (flows_at t reads reading reads.blocks s.caller s.call s.env s.here)).0.1
+  site_on f q m s = rw s.follows (subst (Flow t reading Place s.caller s.call s.env) s.is (flows_at t reads reading reads.blocks reading_laws s.caller s.call s.env s.here)).0.1
 
   module _ (c : Ctl) (f : ℕ) (fs : Frames t reading Place f c.stack) where
     stay : (p : ℕ) → On f p → Stands (to c p)
@@ -81,7 +82,7 @@ module _ (t : Table) (reads : Known t) where
 
   pub step_stands : (c : Ctl) → Stands c → (dir : Directive) (x : Data) → StepStands (step t c dir x)
   unfolding step
-  step_stands c s dir x = step_by c s.function s.frames (t.rec c.place) dir x refl s.here.here (flows_at t reads reading reads.blocks s.function c.place tt s.here.here)
+  step_stands c s dir x = step_by c s.function s.frames (t.rec c.place) dir x refl s.here.here (flows_at t reads reading reads.blocks reading_laws s.function c.place tt s.here.here)
 
   -- "the stack never needs more than 31 places"
   pub stack_bound : (c : Ctl) → Stands c → length c.stack < t.functions

@@ -5,9 +5,9 @@ use Rattle.model.specs.Records.{length_of, Single, of_single}
 use Rattle.model.specs.Table.{Table}
 use Rattle.model.specs.declared.Record.{Record}
 use Rattle.model.specs.declared.Record.TheVariants.{Call, If, Else, Endif, While, Endwhile, Return}
-use Rattle.model.specs.Blocks.{Rules, Types, done, one, branch, loop}
+use Rattle.model.specs.Blocks.{Rules, Laws, Types, done, one, branch, loop}
 use Rattle.model.specs.InOrder.{Chain, stay, on, chain_trans, past, meet}
-use Rattle.model.specs.theory.Flow.{To, Flow}
+use Rattle.model.proofs.theory.Flow.{To, Flow}
 
 abbrev pub Here : {X : Type 0} → ℕ → X → ℕ → X → Type 0
 Here p E c G = (c ≡ p) × (G ≡ E)
@@ -150,11 +150,11 @@ module _ (t : Table) (R : Rules) where
 
   module _ (at : ℕ → ℕ → R.Env → Type 0) (f : ℕ) where
     -- a derivation begins at its first place
-    pub first : {p q : ℕ} {E F : R.Env} (d : Types t R f p E q F) → All (at f) d → at f q F → To t R at f p E
-    first {E = E} done h w = record { env = E; here = w; within = R.within_refl E }
-    first {E = E} (one s n d) h w = record { env = E; here = h.0; within = R.within_refl E }
-    first {E = E} (branch i g a j b k z) h w = record { env = E; here = h.0; within = R.within_refl E }
-    first (loop {L = L} i v g a j u z) h w = record { env = R.loop L; here = h.0; within = v }
+    pub first : Laws R → {p q : ℕ} {E F : R.Env} (d : Types t R f p E q F) → All (at f) d → at f q F → To t R at f p E
+    first laws {E = E} done h w = record { env = E; here = w; within = laws.within_refl E }
+    first laws {E = E} (one s n d) h w = record { env = E; here = h.0; within = laws.within_refl E }
+    first laws {E = E} (branch i g a j b k z) h w = record { env = E; here = h.0; within = laws.within_refl E }
+    first laws (loop {L = L} i v g a j u z) h w = record { env = R.loop L; here = h.0; within = v }
 
     -- at each record, where its CALL goes
     abbrev pub Enters : ℕ → R.Env → Type 0
@@ -168,19 +168,19 @@ module _ (t : Table) (R : Rules) where
         (λ s e n w. (n, w)) (λ g m e n w. ((n, w), x g m e)) i s e n w
 
     -- the flow facts of every record of a derivation
-    pub flows : {p q : ℕ} {E F : R.Env} (d : Types t R f p E q F) → All (at f) d → All Enters d → at f q F → All FlowsAt d
-    flows done h x w = tt
-    flows (one {p = p} {E = E} s n d) h x w = (single p E (t.rec p) refl s n (first d h.1 w) x.0, flows d h.1 x.1 w)
-    flows (branch {p = p} {e = e} {n = n} {E = E} {E₁ = E₁} {E₂ = E₂} i g a j b k z) h x w =
-        let to : To t R at f (n + 1) (R.join E₁ E₂) = first z h.5 w in
-        let after_left : To t R at f (n + 1) E₁ = record { env = to.env; here = to.here; within = R.within_trans E₁ (R.join E₁ E₂) to.env (R.join_left E₁ E₂) to.within } in
-        let after_right : To t R at f (n + 1) E₂ = record { env = to.env; here = to.here; within = R.within_trans E₂ (R.join E₁ E₂) to.env (R.join_right E₁ E₂) to.within } in (
-          rw i (g, first a h.1 h.2, first b h.3 h.4),
-          flows a h.1 x.1 h.2,
+    pub flows : Laws R → {p q : ℕ} {E F : R.Env} (d : Types t R f p E q F) → All (at f) d → All Enters d → at f q F → All FlowsAt d
+    flows laws done h x w = tt
+    flows laws (one {p = p} {E = E} s n d) h x w = (single p E (t.rec p) refl s n (first laws d h.1 w) x.0, flows laws d h.1 x.1 w)
+    flows laws (branch {p = p} {e = e} {n = n} {E = E} {E₁ = E₁} {E₂ = E₂} i g a j b k z) h x w =
+        let to : To t R at f (n + 1) (R.join E₁ E₂) = first laws z h.5 w in
+        let after_left : To t R at f (n + 1) E₁ = record { env = to.env; here = to.here; within = laws.within_trans E₁ (R.join E₁ E₂) to.env (laws.join_left E₁ E₂) to.within } in
+        let after_right : To t R at f (n + 1) E₂ = record { env = to.env; here = to.here; within = laws.within_trans E₂ (R.join E₁ E₂) to.env (laws.join_right E₁ E₂) to.within } in (
+          rw i (g, first laws a h.1 h.2, first laws b h.3 h.4),
+          flows laws a h.1 x.1 h.2,
           rw j after_left,
-          flows b h.3 x.3 h.4,
+          flows laws b h.3 x.3 h.4,
           rw k after_right,
-          flows z h.5 x.5 w,
+          flows laws z h.5 x.5 w,
         )
-    flows (loop {p = p} {e = e} {E₁ = E₁} {L = L} i v g a j u z) h x w =
-        (rw i (g, first a h.1 h.2, first z h.3 w), flows a h.1 x.1 h.2, rw j record { env = R.loop L; here = h.0; within = u }, flows z h.3 x.3 w)
+    flows laws (loop {p = p} {e = e} {E₁ = E₁} {L = L} i v g a j u z) h x w =
+        (rw i (g, first laws a h.1 h.2, first laws z h.3 w), flows laws a h.1 x.1 h.2, rw j record { env = R.loop L; here = h.0; within = u }, flows laws z h.3 x.3 w)
