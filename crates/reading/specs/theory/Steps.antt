@@ -1,5 +1,5 @@
 -- How the reading goes on: always forward, always in the table; and what it closes a block at.
-use Rattle.std.specs.Prelude.{ℕ, zero, suc, ◌+◌, ◌-◌, ◌<◌, ◌≤◌, ◌≡◌, refl, List, true, length, ltb, leb, eqb}
+use Rattle.std.specs.Prelude.{ℕ, zero, suc, ◌+◌, ◌<◌, ◌≤◌, ◌≡◌, refl, List, true, length, ltb, leb, eqb}
 use Rattle.std.proofs.Common.{arith, sym, ap, subst, ◌∙◌, eqb-true}
 use Rattle.model.specs.Tests.{pick_ind}
 use Rattle.model.specs.Records.{length_of, length_pos, Closes, of_closing}

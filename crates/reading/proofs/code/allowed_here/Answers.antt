@@ -1,7 +1,7 @@
+use native.Mathlib.Omega.{arith}
 use borrow.Author.Tests.{ne_eqb}
 use Rattle.reading.specs.Reading.{allowed}
-use Rattle.std.proofs.Common.{rules, ◌≡◌, ◌+◌, ◌-◌, ℕ, ◌*◌, ◌<◌, ◌≤◌, length, ◌/◌, ◌%◌, Bool, true, false, nat_eq, nat_lt, List, [], ◌∷◌, ◌++◌, slice_index_or, slice_set, bit_and, bit_or, Fits, w8, w32, w64, Bor, MutBor}
-use Rattle.reading.specs.Reading.{record_at, call_at, met, if_with, while_with, instr_at, block_at, blocks_at, function_at, functions_at}
+use Rattle.std.proofs.Common.{◌≡◌}
 use Rattle.reading.proofs.code.allowed_here.Goals as goal
 
 pub returns-in-33 : goal.returns-in-33
@@ -27,8 +27,9 @@ returns-in-37 c =
 pub returns-in_default : goal.returns-in_default
 unfolding allowed
 returns-in_default c =
-    let r0 = c.in_default.rest.1 in
-    let r1 = c.in_default.rest.0.1 in
-    let r2 = c.in_default.rest.0.0.1 in
-    let r3 = c.in_default.rest.0.0.0.1 in
+    let a = c.args in
+    let r0 : a.k ≡ 0x25 → ⊥ = λ e. omega (arith, e) in
+    let r1 : a.k ≡ 0x24 → ⊥ = λ e. omega (arith, e) in
+    let r2 : a.k ≡ 0x22 → ⊥ = λ e. omega (arith, e) in
+    let r3 : a.k ≡ 0x21 → ⊥ = λ e. omega (arith, e) in
     simp ne_eqb

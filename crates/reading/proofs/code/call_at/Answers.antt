@@ -2,8 +2,6 @@ use Prim.Native.Nat.{◌≤◌}
 use native.Mathlib.Omega.{arith}
 use borrow.Author.Tests.{lt-ltb, le-ltb}
 use Rattle.reading.specs.Reading.{call_at}
-use Rattle.std.proofs.Common.{rules, ◌≡◌, ◌+◌, ◌-◌, ℕ, ◌*◌, ◌<◌, length, ◌/◌, ◌%◌, Bool, true, false, nat_eq, nat_lt, List, [], ◌∷◌, ◌++◌, slice_index_or, slice_set, bit_and, bit_or, Fits, w8, w32, w64, Bor, MutBor}
-use Rattle.reading.specs.Reading.{allowed, record_at, met, if_with, while_with, instr_at, block_at, blocks_at, function_at, functions_at}
 use Rattle.reading.proofs.code.call_at.Goals as goal
 
 pub returns-then-function-cur : goal.returns-then-function-cur

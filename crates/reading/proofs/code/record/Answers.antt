@@ -1,9 +1,6 @@
 use mathlib.Core.Path.{sym, ◌∙◌}
 use borrow.Author.Tests.{le-leb, lt-leb}
 use Rattle.reading.specs.Reading.{record_at}
-use borrow.Author.Rules.{rules}
-use Rattle.std.proofs.Common.{◌≡◌, ◌+◌, ◌-◌, ℕ, ◌*◌, ◌<◌, ◌≤◌, length, ◌/◌, ◌%◌, Bool, true, false, nat_eq, nat_lt, List, [], ◌∷◌, ◌++◌, slice_index_or, slice_set, bit_and, bit_or, Fits, w8, w32, w64, Bor, MutBor}
-use Rattle.reading.specs.Reading.{allowed, call_at, met, if_with, while_with, instr_at, block_at, blocks_at, function_at, functions_at}
 use Rattle.reading.proofs.code.record.Goals as goal
 
 pub returns-then-t-at : goal.returns-then-t-at
