@@ -4,14 +4,12 @@ use Rattle.std.proofs.Common.{arith, le_refl}
 use Rattle.model.specs.Levels.{Env, Within}
 use Rattle.model.proofs.Levels.{within_refl}
 use Rattle.model.specs.Table.{Table}
-use Rattle.model.specs.Blocks.{Rules, Every}
-use Rattle.model.specs.Rules.{settle, after, typing_by, Typed}
+use Rattle.model.specs.Rules.{after, Typed}
 use Rattle.model.proofs.theory.Settled.{settle_down}
 use Rattle.model.proofs.theory.Monotone.{function_below}
-use Rattle.model.specs.declared.Status.TheVariants.{Updated}
 use Rattle.model.specs.declared.Simple.{Simple}
 use Rattle.model.specs.declared.Simple.TheVariants.{Const, Op, Select, Load, Store, Init, Update, Protect, LoadFixed, StoreFixed}
-use Rattle.model.specs.Before.{fenced_before, after_before, TypedBefore}
+use Rattle.model.specs.Before.{after_before, TypedBefore}
 
 -- they left nothing lower than the rules do now
 higher : (n m : ℕ) (s : Simple) (E : Env) → Within n m (after m s E) (after_before m s E)

@@ -2,12 +2,12 @@
 use Rattle.std.specs.Prelude.{ℕ, ◌≡◌, refl, ◌↔◌, Bool, true, false, eqb}
 use Rattle.std.proofs.Common.{arith, eqb-true, eq-eqb}
 use Rattle.model.specs.Tests.{pick, Decides, pick_ind}
-use Rattle.model.specs.Levels.{Env, within, same_status}
+use Rattle.model.specs.Levels.{Env, same_status}
 use Rattle.model.proofs.Levels.{within_is, same_status_is}
-use Rattle.model.specs.Records.{by_single, by_singles}
+use Rattle.model.specs.Records.{by_singles}
 use Rattle.model.specs.Table.{Table}
 use Rattle.model.specs.Rules.{Needs, NeedsOf, typing}
-use Rattle.model.specs.Walk.{Tests, Right}
+use Rattle.model.specs.Walk.{Right}
 use Rattle.model.specs.declared.Status.TheVariants.{Updated, Outdated}
 use Rattle.model.specs.declared.Simple.{Simple}
 use Rattle.model.specs.declared.Simple.TheVariants.{Const, Op, Select, Load, Store, Init, Update, Protect, LoadFixed, StoreFixed}

@@ -1,9 +1,9 @@
 -- The laws of environments (specs/Levels), for any number of slots: within is a partial order, the join its least upper
 -- bound, and the test decides within.
-use Rattle.std.specs.Prelude.{ℕ, ◌≤◌, ◌<◌, max, ◌≡◌, refl, Bool, true, false, ◌&&◌, eqb, leb, [], ◌∷◌}
+use Rattle.std.specs.Prelude.{ℕ, ◌≤◌, ◌<◌, ◌≡◌, refl, Bool, true, false, ◌&&◌, eqb, leb, [], ◌∷◌}
 use Rattle.std.proofs.Common.{arith, le_refl, le_trans, sym, subst, true≢false, leb-true, le-leb}
 use Rattle.std.specs.Bool.{beq}
-use Rattle.model.specs.Tests.{pick, all, below, Decides, same, test, both, below_all, all_below}
+use Rattle.model.specs.Tests.{pick, all, Decides, same, both, below_all, all_below}
 use Rattle.model.specs.declared.Status.{Status}
 use Rattle.model.specs.declared.Status.TheVariants.{Unknown, Updated, Outdated}
 use Rattle.model.specs.Levels.{Env, Covers, Within, join_status, join, same_status, covers, levels_within, within}

@@ -1,11 +1,11 @@
 -- The laws of return sites (specs/Sites): what is found is a CALL of the code, and every CALL is found.
-use Rattle.std.specs.Prelude.{ℕ, zero, suc, ◌+◌, ◌<◌, ◌≤◌, ◌≡◌, refl, Bool, List, [], ◌∷◌, eqb, leb}
+use Rattle.std.specs.Prelude.{ℕ, ◌+◌, ◌<◌, ◌≤◌, ◌≡◌, refl, Bool, List, [], ◌∷◌}
 use Rattle.std.proofs.Common.{arith, sym, ap, ◌∙◌, inl, inr, true≢false, eq-eqb, ne_eqb}
-use Rattle.std.proofs.Math.Option.{Option, none, some}
+use Rattle.std.proofs.Math.Option.{none, some}
 use Rattle.model.specs.Tests.{pick, same}
-use Rattle.model.specs.Records.{length_of, length_pos, by_single, by_single_lem}
+use Rattle.model.specs.Records.{length_of, length_pos, by_single_lem}
 use Rattle.model.specs.Table.{Table}
-use Rattle.model.specs.InOrder.{Chain, stay, on, chain_le, Placed, In, code_from, code, code_on, code_end, listed_met}
+use Rattle.model.specs.InOrder.{Chain, stay, on, chain_le, Placed, In, code_from, code_on, code_end, listed_met}
 use Rattle.model.specs.declared.Record.{Record}
 use Rattle.model.specs.declared.Record.TheVariants.{Call}
 use Rattle.model.specs.Sites.{mark_of, mark_in}

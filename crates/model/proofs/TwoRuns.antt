@@ -1,12 +1,12 @@
 -- Demand 3 over tables that have been read (specs/TwoRuns): two runs of a typed table observe alike and stop alike.
-use Rattle.std.specs.Prelude.{ℕ, ◌≤◌, ◌<◌, ◌≡◌, Bool, List, length}
+use Rattle.std.specs.Prelude.{ℕ, ◌≤◌, ◌<◌, ◌≡◌, Bool, List}
 use Rattle.std.proofs.Common.{arith, sym, ◌∙◌}
 use Rattle.std.proofs.Math.Decide.{dec_lt}
 use Rattle.std.proofs.Math.ListN.{get_or-eq_default}
 use Rattle.model.specs.Table.{Table, entry}
 use Rattle.model.specs.Rules.{typing, Typed}
-use Rattle.model.specs.Machine.{Data, reg, words_of, word_at, Final, final, run, start_ctl}
-use Rattle.model.specs.theory.Alike.{top, Alike}
+use Rattle.model.specs.Machine.{Data, reg, Final, final, run, start_ctl}
+use Rattle.model.specs.theory.Alike.{top}
 use Rattle.model.proofs.theory.Alike.{weaken}
 use Rattle.model.proofs.theory.Secure.{Related, SameEnd, arrive, run_same}
 use Rattle.model.proofs.Rules.{typing_laws}

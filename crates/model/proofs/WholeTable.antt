@@ -7,12 +7,10 @@ use Rattle.std.proofs.Common.{subst}
 use Rattle.model.specs.Table.{Table}
 use Rattle.model.specs.Blocks.{TypesFunction}
 use Rattle.model.specs.Rules.{typing, Typed, reading}
-use Rattle.model.specs.Faults.{FirstFault}
 use Rattle.model.proofs.theory.Places.{nesting}
 use Rattle.model.specs.Walk.{Ending, Reached, Failed, type_function}
 use Rattle.model.specs.declared.Typing.{Typing}
-use Rattle.model.specs.declared.Typing.TheVariants.{Fault}
-use Rattle.model.specs.Decide.{number_of, typing_tests}
+use Rattle.model.specs.Decide.{typing_tests}
 use Rattle.model.proofs.Decide.{typing_right}
 use Rattle.model.proofs.theory.Passes.{Verdict, verdict, Passes, passes_types}
 use Rattle.model.specs.Levels.{Env}

@@ -1,11 +1,10 @@
 -- The rules as they were before order 3, for one statement: tables that passed before still pass. Only it and its
 -- example (secure's Gauge) speak of them.
-use Rattle.std.specs.Prelude.{ℕ, refl}
-use Rattle.std.proofs.Common.{arith, le_refl}
-use Rattle.model.specs.Levels.{Env, Within}
+use Rattle.std.specs.Prelude.{ℕ}
+use Rattle.model.specs.Levels.{Env}
 use Rattle.model.specs.Table.{Table}
 use Rattle.model.specs.Blocks.{Rules, Every}
-use Rattle.model.specs.Rules.{settle, after, typing_by, Typed}
+use Rattle.model.specs.Rules.{settle, after, typing_by}
 use Rattle.model.specs.declared.Status.TheVariants.{Updated}
 use Rattle.model.specs.declared.Simple.{Simple}
 use Rattle.model.specs.declared.Simple.TheVariants.{Const, Op, Select, Load, Store, Init, Update, Protect, LoadFixed, StoreFixed}

@@ -1,17 +1,15 @@
 -- Document 01's rules as tests, with the numbers of their faults; and that the tests decide the rules.
-use Rattle.std.specs.Prelude.{ℕ, ◌≡◌, refl, ◌↔◌, Bool, true, false, eqb}
-use Rattle.std.proofs.Common.{arith, eqb-true, eq-eqb}
-use Rattle.model.specs.Tests.{pick, Decides, pick_ind}
+use Rattle.std.specs.Prelude.{ℕ, Bool, true, eqb}
+use Rattle.model.specs.Tests.{pick}
 use Rattle.model.specs.Levels.{Env, within, same_status}
-use Rattle.model.specs.Records.{by_single, by_singles}
+use Rattle.model.specs.Records.{by_single}
 use Rattle.model.specs.Table.{Table}
-use Rattle.model.specs.Rules.{Needs, NeedsOf, typing}
-use Rattle.model.specs.Walk.{Tests, Right}
+use Rattle.model.specs.Rules.{typing}
+use Rattle.model.specs.Walk.{Tests}
 use Rattle.model.specs.declared.Status.TheVariants.{Updated, Outdated}
 use Rattle.model.specs.declared.Simple.{Simple}
 use Rattle.model.specs.declared.Simple.TheVariants.{Const, Op, Select, Load, Store, Init, Update, Protect, LoadFixed, StoreFixed}
 use Rattle.model.specs.declared.Record.{Record}
-use Rattle.model.specs.declared.Record.TheVariants.{Do}
 
 -- the environment gives a simple record what it asks
 abbrev pub meets : Simple → Env → Bool

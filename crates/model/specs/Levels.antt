@@ -1,9 +1,8 @@
 -- Document 01, "Levels, flag, environment": environments, within, join, for any number of slots. Their laws stand in
 -- proofs/Levels.
-use Rattle.std.specs.Prelude.{ℕ, ◌≤◌, ◌<◌, max, ◌≡◌, refl, Bool, true, false, ◌&&◌, eqb, leb, [], ◌∷◌}
-use Rattle.std.proofs.Common.{arith, le_refl, le_trans, sym, subst, true≢false, leb-true, le-leb}
+use Rattle.std.specs.Prelude.{ℕ, ◌≤◌, ◌<◌, max, ◌≡◌, Bool, true, false, ◌&&◌, eqb, leb, [], ◌∷◌}
 use Rattle.std.specs.Bool.{beq}
-use Rattle.model.specs.Tests.{pick, all, below, Decides, same, test, both, below_all, all_below}
+use Rattle.model.specs.Tests.{pick, all, below}
 use Rattle.model.specs.declared.Status.{Status}
 use Rattle.model.specs.declared.Status.TheVariants.{Unknown, Updated, Outdated}
 

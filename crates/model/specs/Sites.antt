@@ -1,13 +1,11 @@
 -- Return sites: the places that follow a CALL of a function, looked for in the list of the code.
-use Rattle.std.specs.Prelude.{ℕ, zero, suc, ◌+◌, ◌<◌, ◌≤◌, ◌≡◌, refl, Bool, List, [], ◌∷◌, eqb, leb}
-use Rattle.std.proofs.Common.{arith, sym, ap, ◌∙◌, inl, inr, true≢false, eq-eqb, ne_eqb}
+use Rattle.std.specs.Prelude.{ℕ, zero, suc, ◌+◌, Bool, List, [], ◌∷◌, eqb, leb}
 use Rattle.std.proofs.Math.Option.{Option, none, some}
-use Rattle.model.specs.Tests.{pick, same}
-use Rattle.model.specs.Records.{length_of, length_pos, by_single, by_single_lem}
+use Rattle.model.specs.Tests.{pick}
+use Rattle.model.specs.Records.{by_single}
 use Rattle.model.specs.Table.{Table}
-use Rattle.model.specs.InOrder.{Chain, stay, on, chain_le, Placed, In, code_from, code, code_on, code_end, listed_met}
+use Rattle.model.specs.InOrder.{Placed, code}
 use Rattle.model.specs.declared.Record.{Record}
-use Rattle.model.specs.declared.Record.TheVariants.{Call}
 
 -- the mark, if the record is a CALL of f
 abbrev pub mark_of : Record → ℕ → Option Bool

@@ -1,15 +1,10 @@
 -- Demand 3 over tables that have been read: two runs of a typed table, from starts that agree on what the entry's
 -- in-environment calls public or transient, observe alike and stop alike. Stated for any start, misspeculating or not
 -- (order 11 asks for both), and with what the two runs still agree on where they end.
-use Rattle.std.specs.Prelude.{ℕ, ◌≤◌, ◌<◌, ◌≡◌, Bool, List, length}
-use Rattle.std.proofs.Common.{arith, sym, ◌∙◌}
-use Rattle.std.proofs.Math.Decide.{dec_lt}
-use Rattle.std.proofs.Math.ListN.{get_or-eq_default}
+use Rattle.std.specs.Prelude.{ℕ, ◌≤◌, ◌<◌, ◌≡◌, Bool, length}
 use Rattle.model.specs.Table.{Table, entry}
-use Rattle.model.specs.Rules.{typing, Typed}
-use Rattle.model.specs.Machine.{Data, reg, words_of, word_at, Final, final, run, start_ctl}
+use Rattle.model.specs.Machine.{Data, reg, words_of, word_at, Final, final}
 use Rattle.model.specs.theory.Alike.{top, Alike}
-use Rattle.model.specs.declared.Directive.{Directive}
 
 -- both of the table's sizes, equal in every register and array whose level on the way in is at most the highest that
 -- counts: transient on the right path, public while misspeculating

@@ -1,12 +1,7 @@
 -- The typing of a whole table: the functions in table order, up to the first fault; and that it is what the rules say.
-use Prim.Native.Nat.{ℕ, zero, suc, ◌-◌, ◌<◌, ◌≤◌}
-use native.Mathlib.Omega.{arith}
-use Rattle.std.specs.Prelude.{◌≡◌, ◌↔◌}
-use Rattle.std.proofs.Math.Path.{refl}
-use Rattle.std.proofs.Common.{subst}
+use Prim.Native.Nat.{ℕ, zero, suc, ◌-◌}
 use Rattle.model.specs.Table.{Table}
-use Rattle.model.specs.Blocks.{TypesFunction}
-use Rattle.model.specs.Rules.{typing, Typed, reading}
+use Rattle.model.specs.Rules.{typing, Typed}
 use Rattle.model.specs.Faults.{FirstFault}
 use Rattle.model.specs.Walk.{Ending, Reached, Failed, type_function}
 use Rattle.model.specs.declared.Typing.{Typing}

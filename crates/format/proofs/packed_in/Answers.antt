@@ -5,10 +5,6 @@ use borrow.Author.Tests.{lt-ltb, le-ltb}
 use Rattle.model.specs.Tests.{pick_same}
 use Rattle.model.specs.Packing.{packed_in}
 use Rattle.format.proofs.Laws.{pick_self}
-use borrow.Author.Rules.{rules}
-use Rattle.std.proofs.Common.{◌≡◌, ◌+◌, ◌<◌, ℕ, ◌-◌, ◌*◌, length, ◌/◌, ◌%◌, Bool, true, false, nat_eq, nat_lt, List, [], ◌∷◌, ◌++◌, slice_index_or, slice_set, bit_and, bit_or, Fits, w8, w32, w64, Bor, MutBor}
-use Rattle.model.specs.Packing.{levels_in}
-use Rattle.format.specs.Format.{byte, word16, word32, packed_at}
 use Rattle.format.proofs.packed_in.Goals as goal
 
 pub returns-then-e-ge2 : goal.returns-then-e-ge2

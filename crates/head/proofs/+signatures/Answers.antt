@@ -1,11 +1,6 @@
 use mathlib.Core.Path.{sym, ◌∙◌}
 use Rattle.format.specs.Head.{signatures_at}
 use Rattle.head.proofs.Laws.{signatures_is}
-use borrow.Author.Rules.{rules}
-use Prim.Native.Nat.{ℕ, ◌<◌}
-use borrow.Fn.PlainCycle.{Measures, is, falls, and}
-use Rattle.std.proofs.Common.{◌≡◌, ◌+◌, ◌-◌, ◌*◌, ◌≤◌, length, ◌/◌, ◌%◌, Bool, true, false, nat_eq, nat_lt, List, [], ◌∷◌, ◌++◌, slice_index_or, slice_set, bit_and, bit_or, Fits, w8, w32, w64, Bor, MutBor}
-use Rattle.format.specs.Head.{sizes_at, array_at, signature_at, arrays_at}
 use Rattle.head.proofs.+signatures.Goals as goal
 
 pub returns-then-n-eq0 : goal.returns-then-n-eq0

@@ -1,10 +1,7 @@
 -- The tests of a signature in their order, 3, 2, 4, 8: each answer is the definition's, by the tests that led to it.
 use mathlib.Core.Path.{sym, ◌∙◌}
-use borrow.Author.Tests.{lt-ltb, le-ltb, le-leb, lt-leb, eq-eqb, ne_eqb, not-true, not-false}
+use borrow.Author.Tests.{lt-ltb, le-ltb, le-leb, lt-leb, eq-eqb, ne_eqb}
 use Rattle.format.specs.Head.{signature_at}
-use borrow.Author.Rules.{rules}
-use Rattle.std.proofs.Common.{◌≡◌, ◌+◌, ℕ, ◌-◌, ◌*◌, ◌<◌, ◌≤◌, length, ◌/◌, ◌%◌, Bool, true, false, nat_eq, nat_lt, List, [], ◌∷◌, ◌++◌, slice_index_or, slice_set, bit_and, bit_or, Fits, w8, w32, w64, Bor, MutBor}
-use Rattle.format.specs.Head.{sizes_at, array_at, arrays_at, signatures_at}
 use Rattle.head.proofs.signature.Goals as goal
 
 pub returns-then-t-at : goal.returns-then-t-at

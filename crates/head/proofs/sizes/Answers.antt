@@ -6,9 +6,6 @@ use native.Mathlib.Omega.{arith}
 use Rattle.format.specs.Format.{byte}
 use Rattle.format.specs.Head.{sizes_at}
 use borrow.Author.Tests.{lt-ltb, le-ltb, le-leb, lt-leb, eq-eqb, ne_eqb}
-use borrow.Author.Rules.{rules}
-use Rattle.std.proofs.Common.{◌≡◌, ℕ, ◌-◌, ◌*◌, ◌≤◌, length, ◌/◌, ◌%◌, Bool, true, false, nat_eq, nat_lt, List, [], ◌∷◌, ◌++◌, slice_index_or, slice_set, bit_and, bit_or, Fits, w8, w32, w64, Bor, MutBor}
-use Rattle.format.specs.Head.{array_at, signature_at, arrays_at, signatures_at}
 use Rattle.head.proofs.sizes.Goals as goal
 
 pub returns-then-t-at : goal.returns-then-t-at

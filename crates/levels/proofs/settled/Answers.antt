@@ -2,10 +2,6 @@ use borrow.Author.Tests.{le-leb, lt-leb}
 use Prim.Native.Nat.{◌≤◌, ◌<◌}
 use native.Mathlib.Omega.{arith}
 use Rattle.model.specs.Rules.{settle}
-use Rattle.std.proofs.Common.{rules, ◌≡◌, ◌%◌, max, min, ltb, ℕ, ◌+◌, ◌-◌, ◌*◌, length, ◌/◌, Bool, true, false, nat_eq, List, [], ◌∷◌, ◌++◌, slice_index_or, slice_set, bit_and, bit_or, Fits, w8, w32, w64, Bor, MutBor}
-use Rattle.model.specs.Packing.{slot}
-use Rattle.model.specs.Tests.{pick}
-use Rattle.model.specs.theory.Words.{lows, join_words, within_words, settle_word, put_word}
 use Rattle.levels.proofs.settled.Goals as goal
 
 pub returns-then-a-le1 : goal.returns-then-a-le1

@@ -3,13 +3,7 @@ use native.Mathlib.Omega.{arith}
 use Prim.Native.Nat.{min}
 use mathlib.Core.Path.{◌≡◌}
 use Rattle.model.specs.theory.Words.{lows}
-use Rattle.levels.proofs.Shifts.{mask_pos, lows_shifted}
-use borrow.Author.Rules.{rules}
-use Rattle.std.proofs.Common.{◌%◌, max, ltb, ℕ, ◌+◌, ◌-◌, ◌*◌, ◌<◌, ◌≤◌, length, ◌/◌, Bool, true, false, nat_eq, List, [], ◌∷◌, ◌++◌, slice_index_or, slice_set, bit_and, bit_or, Fits, w8, w32, w64, Bor, MutBor}
-use Rattle.model.specs.Packing.{slot}
-use Rattle.model.specs.Rules.{settle}
-use Rattle.model.specs.Tests.{pick}
-use Rattle.model.specs.theory.Words.{join_words, within_words, settle_word, put_word}
+use Rattle.levels.proofs.Shifts.{lows_shifted}
 use Rattle.levels.proofs.transients.Goals as goal
 
 pub returns-then-n-ge16 : goal.returns-then-n-ge16

@@ -1,15 +1,9 @@
-use mathlib.Core.Path.{refl, ap, ◌∙◌}
+use mathlib.Core.Path.{ap, ◌∙◌}
 use native.Mathlib.Omega.{arith}
 use Prim.Native.Nat.{ℕ, ◌*◌, ◌%◌, ◌^◌, ◌<◌}
 use lib.Bits.{bit_xor}
-use borrow.Author.Tests.{le-ltb, lt-ltb}
+use borrow.Author.Tests.{lt-ltb}
 use Rattle.levels.proofs.Shifts.{put_shifted}
-use borrow.Author.Rules.{rules}
-use Rattle.std.proofs.Common.{◌≡◌, max, min, ltb, ◌+◌, ◌-◌, ◌≤◌, length, ◌/◌, Bool, true, false, nat_eq, List, [], ◌∷◌, ◌++◌, slice_index_or, slice_set, bit_and, bit_or, Fits, w8, w32, w64, Bor, MutBor}
-use Rattle.model.specs.Packing.{slot}
-use Rattle.model.specs.Rules.{settle}
-use Rattle.model.specs.Tests.{pick}
-use Rattle.model.specs.theory.Words.{lows, join_words, within_words, settle_word, put_word}
 use Rattle.levels.proofs.with_level.Goals as goal
 
 pub returns : goal.returns

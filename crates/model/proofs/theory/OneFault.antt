@@ -2,7 +2,7 @@
 -- so two first faults of a table are the same number at the same place. By induction on how the block was read, as in
 -- Passes.
 use Prim.Native.Nat.{ℕ, zero, suc, ◌+◌, ◌<◌, ◌≤◌, max}
-use Rattle.std.proofs.Common.{arith, sym, ap, subst, ◌∙◌, inl, inr, ltb→lt, lt→ltb}
+use Rattle.std.proofs.Common.{arith, sym, subst, ◌∙◌, inl, inr, ltb→lt, lt→ltb}
 use Rattle.std.specs.Prelude.{◌≡◌, ◌⊎◌, Bool, true, false, T, ltb}
 use Rattle.std.proofs.Math.Path.{refl}
 use Rattle.model.specs.Tests.{Decides, test}
@@ -13,7 +13,7 @@ use Rattle.model.specs.Rules.{reading, typing}
 use Rattle.model.specs.Faults.{Faults, fails, past, if_guard, if_first, if_second, if_past, while_arriving, while_guard, while_body, while_end, while_past, FaultsFunction, on_the_way, at_return, FirstFault}
 use Rattle.model.specs.InOrder.{chain_le}
 use Rattle.model.proofs.theory.Places.{nesting, spans}
-use Rattle.model.specs.Walk.{Ending, Failed, on_next, Tests, Right, if_with, while_with, single, instr_with, type_block, inside, type_function, single_at, instr_at_lem}
+use Rattle.model.specs.Walk.{Ending, Failed, on_next, Tests, Right, if_with, while_with, single, instr_with, type_block, type_function, single_at, instr_at_lem}
 use Rattle.model.proofs.theory.Passes.{else_same, walk, blocks, Faulty, below, below₁, Complete, blocks_complete, walk_complete, Passes, passes_types}
 use Rattle.model.proofs.WholeTable.{Read}
 use Rattle.model.specs.Decide.{number_of, typing_tests}

@@ -2,20 +2,10 @@
 -- are, within and the join stand in Levels; here are the forms that work on a whole word at once, and the laws that
 -- say what they mean. The laws ask two things of a word: no slot is 3, and the slots that a table does not use are 0.
 -- They hold for any width n.
-use Prim.Native.Nat.{ℕ, zero, suc, ◌+◌, ◌-◌, ◌*◌, ◌/◌, ◌%◌, ◌^◌, ◌<◌, ◌≤◌, max}
-use Rattle.std.proofs.Common.{arith, div-one, pow-suc, lt_of_le_of_lt, sym, ◌∙◌, true≢false, lt-ltb, ltb-false, le-leb, leb-true, eq-eqb, eqb-true}
-use Rattle.std.proofs.Math.Nat.{div-div-eq-div-mul, pow-succ'}
-use Rattle.std.proofs.Math.Decide.{dec_lt}
-use Rattle.std.specs.Prelude.{◌≡◌, refl, Bool, true, false, eqb, leb, ltb}
-use Rattle.std.proofs.Math.Path.{ap}
-use Rattle.std.specs.Int.Bits.{bit_and, bit_or, bit_xor, xor_zero_r}
-use Rattle.std.proofs.lemmas.Nat.{and_shr, or_shr, xor_shr, and_mod, or_mod, xor_mod, and_mask, and_le_l, or_lt, xor_lt}
-use Rattle.std.proofs.Math.Arith.{digits_mod}
-use Rattle.std.proofs.Math.Dec.{leb-suc-zero, leb-suc-suc, eqb-zero-suc, eqb-suc-zero, eqb-suc-suc}
-use Rattle.model.specs.Tests.{pick, put, Decides, same, pick_ind, below_all, all_below}
-use Rattle.model.specs.Levels.{levels_within}
-use Rattle.model.specs.Packing.{slot, levels_in}
-use Rattle.model.specs.Rules.{settle}
+use Prim.Native.Nat.{ℕ, zero, suc, ◌+◌, ◌*◌, ◌/◌, ◌^◌, ◌<◌, ◌≤◌}
+use Rattle.std.specs.Prelude.{◌≡◌, Bool, eqb}
+use Rattle.std.specs.Int.Bits.{bit_and, bit_or, bit_xor}
+use Rattle.model.specs.Packing.{slot}
 
 -- no level is 3
 abbrev pub NoThree : (ℕ → ℕ) → Type 0

@@ -2,9 +2,6 @@
 use borrow.Author.Tests.{ne_eqb}
 use native.Mathlib.Omega.{arith}
 use Rattle.format.specs.Format.{code_length}
-use Rattle.std.proofs.Common.{rules, ◌≡◌, ◌+◌, ◌≤◌, ◌<◌, length, ltb, ℕ, ◌-◌, ◌*◌, ◌/◌, ◌%◌, Bool, true, false, nat_eq, List, [], ◌∷◌, ◌++◌, slice_index_or, slice_set, bit_and, bit_or, Fits, w8, w32, w64, Bor, MutBor}
-use Rattle.format.specs.Format.{words_at, decode_at, row_at}
-use Rattle.format.specs.Layout.{record_of, next_of}
 use Rattle.records.proofs.code_length.Goals as goal
 
 pub returns-in-16 : goal.returns-in-16

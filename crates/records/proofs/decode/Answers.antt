@@ -4,10 +4,6 @@ use mathlib.Core.Path.{sym, subst, ◌∙◌}
 use borrow.Author.Tests.{le-leb, lt-leb}
 use Rattle.format.specs.Format.{decode_at}
 use Rattle.records.proofs.Laws.{decode_none, decode_short}
-use borrow.Author.Rules.{rules}
-use Rattle.std.proofs.Common.{◌≡◌, ◌+◌, ◌≤◌, ltb, ◌*◌, ◌/◌, ◌%◌, Bool, true, false, nat_eq, List, [], ◌∷◌, ◌++◌, slice_index_or, slice_set, bit_and, bit_or, Fits, w8, w32, w64, Bor, MutBor}
-use Rattle.format.specs.Format.{code_length, words_at, row_at}
-use Rattle.format.specs.Layout.{record_of, next_of}
 use Rattle.records.proofs.decode.Goals as goal
 
 pub returns-then-t-at : goal.returns-then-t-at

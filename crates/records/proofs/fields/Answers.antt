@@ -6,10 +6,6 @@ use mathlib.Core.Path.{sym, subst}
 use borrow.Author.Tests.{ne_eqb}
 use Rattle.format.specs.Format.{code_length, row_at}
 use Rattle.records.proofs.Laws.{row_init, row_endif, row_return}
-use borrow.Author.Rules.{rules}
-use Rattle.std.proofs.Common.{◌≡◌, ◌<◌, ltb, ◌-◌, ◌*◌, ◌/◌, ◌%◌, Bool, true, false, nat_eq, List, [], ◌∷◌, ◌++◌, slice_index_or, slice_set, bit_and, bit_or, Fits, w8, w32, w64, Bor, MutBor}
-use Rattle.format.specs.Format.{words_at, decode_at}
-use Rattle.format.specs.Layout.{record_of, next_of}
 use Rattle.records.proofs.fields.Goals as goal
 
 pub read_const-requires : goal.read_const-requires

@@ -2,10 +2,6 @@ use Rattle.model.specs.Tests.{pick_same}
 use borrow.Author.Tests.{lt-ltb, le-ltb}
 use Rattle.format.specs.Format.{row_at}
 use Rattle.records.proofs.Laws.{whole}
-use borrow.Author.Rules.{rules}
-use Rattle.std.proofs.Common.{◌≡◌, ◌+◌, ◌≤◌, ◌<◌, length, ltb, ℕ, ◌-◌, ◌*◌, ◌/◌, ◌%◌, Bool, true, false, nat_eq, List, [], ◌∷◌, ◌++◌, slice_index_or, slice_set, bit_and, bit_or, Fits, w8, w32, w64, Bor, MutBor}
-use Rattle.format.specs.Format.{code_length, words_at, decode_at}
-use Rattle.format.specs.Layout.{record_of, next_of}
 use Rattle.records.proofs.read_load.Goals as goal
 
 pub returns-then-z-dest : goal.returns-then-z-dest

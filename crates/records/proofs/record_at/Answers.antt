@@ -2,10 +2,6 @@ use mathlib.Core.Path.{refl, sym, ◌∙◌}
 use Rattle.format.specs.Laws.{good}
 use Rattle.format.specs.Layout.{record_got, record_bad, next_on, next_end}
 use Rattle.records.proofs.Laws.{decode_past}
-use borrow.Author.Rules.{rules}
-use Rattle.std.proofs.Common.{◌≡◌, ◌+◌, ◌≤◌, ◌<◌, length, ltb, ℕ, ◌-◌, ◌*◌, ◌/◌, ◌%◌, Bool, true, false, nat_eq, List, [], ◌∷◌, ◌++◌, slice_index_or, slice_set, bit_and, bit_or, Fits, w8, w32, w64, Bor, MutBor}
-use Rattle.format.specs.Format.{code_length, words_at, decode_at, row_at}
-use Rattle.format.specs.Layout.{record_of, next_of}
 use Rattle.records.proofs.record_at.Goals as goal
 
 pub returns-then-t-at : goal.returns-then-t-at
