@@ -4,7 +4,7 @@ use Prim.Native.Nat.{ℕ, zero, suc, ◌+◌, ◌*◌, ◌<◌, ◌≤◌, max}
 use native.Mathlib.Omega.{arith}
 use Rattle.std.specs.Prelude.{◌≡◌, refl, List, true, false, length}
 use Rattle.model.specs.Tests.{pick_ind}
-use Rattle.model.specs.Levels.{Env, within}
+use Rattle.model.specs.Levels.{Env}
 use Rattle.model.specs.Packing.{env_of}
 use Rattle.model.specs.Records.{length_of, length_pos, Closes}
 use Rattle.model.specs.Rules.{typing}

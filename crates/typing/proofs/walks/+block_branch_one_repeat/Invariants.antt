@@ -1,0 +1,30 @@
+use Rattle.std.proofs.Common.{◌≡◌, ◌+◌, ◌<◌, ◌≤◌, length, ℕ, ◌-◌, ◌*◌}
+use Rattle.typing.specs.Envs.{view_env, Fit}
+use Rattle.typing.specs.Walks.{size, block_walk}
+use Rattle.typing.proofs.walks.+block_branch_one_repeat.Given as goal
+
+-- what falls at each call is the nesting that is left
+abbrev pub decreases-block : goal.decreases-block
+decreases-block l = 3 * l.depth + 2
+
+abbrev pub decreases-branch : goal.decreases-branch
+decreases-branch l = 3 * l.depth
+
+abbrev pub decreases-one : goal.decreases-one
+decreases-one l = 3 * l.depth + 1
+
+abbrev pub decreases-repeat : goal.decreases-repeat
+decreases-repeat l = 3 * l.depth
+
+-- the model's walk from the start is its walk from here on, k bounding the records that are left
+abbrev pub invariant-block-loop-n : goal.invariant-block-loop-n
+invariant-block-loop-n l =
+    (k : ℕ)
+    × (length l.t - l.at < k)
+    × (l.at ≤ 100000)
+    × Fit l.z (view_env l.e)
+    × (block_walk l.z l.t l.depth (size l.z l.t) l.initial.at (view_env l.initial.e) ≡ block_walk l.z l.t l.depth k l.at (view_env l.e))
+
+-- in a block it is the bytes that are left
+abbrev pub decreases-block-loop-n : goal.decreases-block-loop-n
+decreases-block-loop-n l = length l.t - l.at
