@@ -5,6 +5,7 @@
 // whole is never accepted.
 #![tactic(auto)]
 
+use std::io::{Read, Stdin};
 use typing::Verdict;
 
 // What came on standard input: all of it (or as much as there is room for), or what came before a read failed.
@@ -14,18 +15,18 @@ enum Input {
     Failed(usize),
 }
 
-fn read_input(space: &mut [u8]) -> Input {
+fn read_input(mut stdin: Stdin, space: &mut [u8]) -> Input {
     let mut n = 0;
     while n < space.len() {
-        let got = libc::read(0, &mut space[n..]);
-        if got < 0 {
-            return Input::Failed(n);
+        match stdin.read(&mut space[n..]) {
+            Err(_) => return Input::Failed(n),
+            Ok(more) => {
+                if more == 0 {
+                    return Input::Whole(n);
+                }
+                n += more;
+            }
         }
-        let more = io::count(got, &space[n..]);
-        if more == 0 {
-            return Input::Whole(n);
-        }
-        n += more;
     }
     Input::Whole(n)
 }
@@ -42,9 +43,9 @@ fn judge(table: &[u8], input: Input) -> Verdict {
     }
 }
 
-fn main() {
+fn main(rt: HostRuntime) {
     let mut table = [0u8; 32769];
-    let input = read_input(&mut table);
+    let input = read_input(rt.stdin(), &mut table);
     let verdict = judge(&table, input);
     let mut line = [0u8; 80];
     let n = report::verdict_line(verdict, &mut line);
