@@ -1,6 +1,6 @@
 -- The run's steps, one after another: what is left of the run after some turns is the run from where they ended. And
 -- where the run stands there is room on the stack.
-use Rattle.std.proofs.Common.{◌≡◌, ℕ, zero, suc, ◌+◌, ◌-◌, ◌<◌, ◌≤◌, Bool, true, false, List, [], ◌∷◌, ◌++◌, length, set, sym, refl, ap, ◌∙◌, subst, arith, length-set, le-leb}
+use Rattle.std.proofs.Common.{◌≡◌, ℕ, zero, suc, ◌+◌, ◌-◌, ◌<◌, ◌≤◌, Bool, true, false, List, [], ◌∷◌, length, set, sym, refl, ap, ◌∙◌, subst, arith, length-set, le-leb}
 use lib.Seq.{sets}
 use borrow.Author.Tests.{lt-leb}
 use Rattle.model.specs.Memory.{sets_append}

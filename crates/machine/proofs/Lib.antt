@@ -4,4 +4,3 @@ pub mod Going
 pub mod Stepping
 pub mod Answers
 pub mod Moving
-pub mod Rows

@@ -1,5 +1,5 @@
 -- What becomes of the stack: the state after a step has the stack that the plan says, and only a CALL makes it longer.
-use Rattle.std.proofs.Common.{◌≡◌, ℕ, suc, ◌-◌, ◌≤◌, Bool, eqb, List, [], ◌∷◌, length, sym, refl, ap, ◌∙◌, arith}
+use Rattle.std.proofs.Common.{◌≡◌, ℕ, suc, ◌≤◌, Bool, eqb, List, [], ◌∷◌, length, sym, refl, ap, ◌∙◌, arith}
 use mathlib.Core.Option.{Option, none, some}
 use Rattle.model.specs.Tests.{pick_ind}
 use Rattle.model.specs.Sites.{site}

@@ -1,7 +1,7 @@
 -- For every table that reads, typed or not, and every list of directives: wherever a run ends, and so after each of
 -- its steps, it stands at the start of a record of code, with at most 31 places on the stack and none at the entry's
 -- RETURN; and it stops only for a listed reason.
-use Rattle.std.specs.Prelude.{◌≡◌, ℕ, ◌-◌, ◌<◌, ◌≤◌, Bool, List, [], ◌∷◌, length, refl}
+use Rattle.std.specs.Prelude.{◌≡◌, ℕ, ◌<◌, ◌≤◌, Bool, List, [], ◌∷◌, length, refl}
 use Rattle.std.proofs.Common.{arith, sym, ◌∙◌, inl, inr}
 use Rattle.model.specs.Table.{Table, entry}
 use Rattle.model.specs.Rules.{reading}

@@ -14,7 +14,7 @@ use Rattle.machine.specs.declared.State.{State}
 use Rattle.machine.specs.declared.Acted.{Acted}
 use Rattle.machine.specs.Directives.{bytes_of}
 use Rattle.machine.specs.States.{length_stack, ctl_of, data_of, arrayed}
-use Rattle.machine.specs.Turns.{Lent, lent, ActMoves, ActHalts, Acts}
+use Rattle.machine.specs.Turns.{Lent, ActMoves, ActHalts, Acts}
 
 -- the parts of a step, and of an end
 abbrev control : Ctl → Stepped → Ctl

@@ -25,7 +25,7 @@ fn pushed(s: State, q: usize, place: usize) -> Next
 
 pub(crate) fn call(s: State, next: usize, dir: Directive, place: usize) -> Plan
     requires { next < 65536 }
-    ensures n_value { (t : Table) (m n : List ℕ) → view_plan t s result (data_of s m n) ≡ pass t dir (data_of s m n) (called (ctl_of s) next place) }
+    ensures plans { (t : Table) (m n : List ℕ) → view_plan t s result (data_of s m n) ≡ pass t dir (data_of s m n) (called (ctl_of s) next place) }
     ensures lands { (t : Table) → Lands t result.effect }
 {
     if is_plain(dir) {
@@ -36,7 +36,7 @@ pub(crate) fn call(s: State, next: usize, dir: Directive, place: usize) -> Plan
 
 // IF and WHILE on a register's value: way 1 goes to `yes`, way 0 to `no`.
 pub(crate) fn forked(s: State, dir: Directive, v: u32, yes: usize, no: usize) -> Plan
-    ensures n_value { (t : Table) (m n : List ℕ) → view_plan t s result (data_of s m n) ≡ fork t v yes no (ctl_of s) dir (data_of s m n) }
+    ensures plans { (t : Table) (m n : List ℕ) → view_plan t s result (data_of s m n) ≡ fork t v yes no (ctl_of s) dir (data_of s m n) }
     ensures lands { (t : Table) → Lands t result.effect }
 {
     match dir {

@@ -65,7 +65,7 @@ pub(crate) fn plain_to(
     masked: bool,
     seen: Observation,
 ) -> Plan
-    ensures x_value { (t : Table) (x : Data) → view_plan t s result x ≡ plainly t dir s place effect masked seen x }
+    ensures plans { (t : Table) (x : Data) → view_plan t s result x ≡ plainly t dir s place effect masked seen x }
     ensures lands { (t : Table) → Lands t effect → Lands t result.effect }
 {
     if is_plain(dir) {

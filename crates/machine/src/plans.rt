@@ -16,7 +16,7 @@ use format::Decoded;
 use model::{Directive, Observation, Record, Sizes};
 
 fn pass_to(s: State, dir: Directive, place: usize) -> Plan
-    ensures n_value { (t : Table) (m n : List ℕ) → view_plan t s result (data_of s m n) ≡ pass t dir (data_of s m n) (to (ctl_of s) place) }
+    ensures plans { (t : Table) (m n : List ℕ) → view_plan t s result (data_of s m n) ≡ pass t dir (data_of s m n) (to (ctl_of s) place) }
     ensures lands { (t : Table) → Lands t result.effect }
 {
     let masked = s.masked;
@@ -26,7 +26,7 @@ fn pass_to(s: State, dir: Directive, place: usize) -> Plan
 // What the record at the state's place would do under the directive. Where none can be read, RETURN stands for it.
 pub(crate) fn plan(t: &[u8], z: Sizes, s: State, dir: Directive, regs: &[u32], mem: &[u32]) -> Plan
     requires { length t.now ≤ 32768 }
-    ensures mem_value { view_plan (table_with z t.now) s result (data_of s regs.now mem.now)
+    ensures plans { view_plan (table_with z t.now) s result (data_of s regs.now mem.now)
         ≡ step (table_with z t.now) (ctl_of s) dir (data_of s regs.now mem.now) }
     ensures lands { Lands (table_with z t.now) result.effect }
 {

@@ -73,7 +73,7 @@ fn masked_by(mark: bool, masked: bool) -> bool
 
 // A wrong return: the stack is emptied, and the CALL that is returned to decides about the flag.
 fn astray(s: State, q: usize, site: Site) -> Plan
-    ensures n_value { (t : Table) (m n : List ℕ) → view_plan t s result (data_of s m n) ≡ wrong t (mark_of site) q (data_of s m n) }
+    ensures plans { (t : Table) (m n : List ℕ) → view_plan t s result (data_of s m n) ≡ wrong t (mark_of site) q (data_of s m n) }
     ensures lands { (t : Table) → Lands t result.effect }
 {
     match site {
@@ -120,7 +120,7 @@ fn popped(s: State, q: usize) -> Next
 
 // RETURN to q: the top of the stack first, then the places that follow a CALL of this function.
 fn back_to(t: &[u8], z: Sizes, s: State, q: usize) -> Plan
-    ensures by_index { (m n : List ℕ) → view_plan (table_with z t.now) s result (data_of s m n) ≡ right (table_with z t.now) (pop (ctl_of s).stack q) q (ctl_of s) (data_of s m n) }
+    ensures plans { (m n : List ℕ) → view_plan (table_with z t.now) s result (data_of s m n) ≡ right (table_with z t.now) (pop (ctl_of s).stack q) q (ctl_of s) (data_of s m n) }
     ensures lands { (t : Table) → Lands t result.effect }
 {
     if top_is(s, q) {
@@ -132,7 +132,7 @@ fn back_to(t: &[u8], z: Sizes, s: State, q: usize) -> Plan
 }
 
 pub(crate) fn returning(t: &[u8], z: Sizes, s: State, dir: Directive) -> Plan
-    ensures by_index { (m n : List ℕ) → view_plan (table_with z t.now) s result (data_of s m n) ≡ back (table_with z t.now) (ctl_of s) dir (data_of s m n) }
+    ensures plans { (m n : List ℕ) → view_plan (table_with z t.now) s result (data_of s m n) ≡ back (table_with z t.now) (ctl_of s) dir (data_of s m n) }
     ensures lands { (t : Table) → Lands t result.effect }
 {
     match dir {

@@ -27,7 +27,7 @@ fn load(
     array: u8,
     index: u8,
 ) -> Plan
-    ensures mem_value { view_plan (table_with z t.now) s result (data_of s regs.now mem.now)
+    ensures plans { view_plan (table_with z t.now) s result (data_of s regs.now mem.now)
         ≡ onward (work (table_with z t.now) (Simple.Load dest array index) dir s.mis (data_of s regs.now mem.now)) (to (ctl_of s) next) }
     ensures lands { Lands (table_with z t.now) result.effect }
 {
@@ -59,7 +59,7 @@ fn store(
     index: u8,
     source: u8,
 ) -> Plan
-    ensures by_index { (m : List ℕ) → view_plan (table_with z t.now) s result (data_of s regs.now m)
+    ensures plans { (m : List ℕ) → view_plan (table_with z t.now) s result (data_of s regs.now m)
         ≡ onward (work (table_with z t.now) (Simple.Store array index source) dir s.mis (data_of s regs.now m)) (to (ctl_of s) next) }
     ensures lands { Lands (table_with z t.now) result.effect }
 {
@@ -92,7 +92,7 @@ fn load_fixed(
     array: u8,
     index: u16,
 ) -> Plan
-    ensures by_index { (m : List ℕ) → view_plan (table_with z t.now) s result (data_of s m mem.now)
+    ensures plans { (m : List ℕ) → view_plan (table_with z t.now) s result (data_of s m mem.now)
         ≡ onward (work (table_with z t.now) (Simple.LoadFixed dest array index) dir s.mis (data_of s m mem.now)) (to (ctl_of s) next) }
     ensures lands { (t : Table) → Lands t result.effect }
 {
@@ -111,7 +111,7 @@ fn store_fixed(
     index: u16,
     source: u8,
 ) -> Plan
-    ensures m_value { (t : Table) (m : List ℕ) → view_plan t s result (data_of s regs.now m)
+    ensures plans { (t : Table) (m : List ℕ) → view_plan t s result (data_of s regs.now m)
         ≡ onward (work t (Simple.StoreFixed array index source) dir s.mis (data_of s regs.now m)) (to (ctl_of s) next) }
     ensures lands { (t : Table) → index < words_of t array → Lands t result.effect }
 {
@@ -129,7 +129,7 @@ fn store_fixed(
 }
 
 fn init(s: State, next: usize, dir: Directive) -> Plan
-    ensures n_value { (t : Table) (m n : List ℕ) → view_plan t s result (data_of s m n) ≡ onward (work t Simple.Init dir s.mis (data_of s m n)) (to (ctl_of s) next) }
+    ensures plans { (t : Table) (m n : List ℕ) → view_plan t s result (data_of s m n) ≡ onward (work t Simple.Init dir s.mis (data_of s m n)) (to (ctl_of s) next) }
     ensures lands { (t : Table) → Lands t result.effect }
 {
     if s.mis {
@@ -139,7 +139,7 @@ fn init(s: State, next: usize, dir: Directive) -> Plan
 }
 
 fn updated(s: State, next: usize, dir: Directive, held: bool) -> Plan
-    ensures x_value { (t : Table) (x : Data) → view_plan t s result x ≡ plainly t dir s next Effect.None (pick held s.masked true) Observation.Nothing x }
+    ensures plans { (t : Table) (x : Data) → view_plan t s result x ≡ plainly t dir s next Effect.None (pick held s.masked true) Observation.Nothing x }
     ensures lands { (t : Table) → Lands t result.effect }
 {
     if held {
@@ -151,7 +151,7 @@ fn updated(s: State, next: usize, dir: Directive, held: bool) -> Plan
 
 // A register is written: the value that a record other than the loads gives its dest.
 fn write(s: State, next: usize, dir: Directive, dest: u8, v: u32) -> Plan
-    ensures x_value { (t : Table) (x : Data) → view_plan t s result x ≡ plainly t dir s next (Effect.Register dest v) s.masked Observation.Nothing x }
+    ensures plans { (t : Table) (x : Data) → view_plan t s result x ≡ plainly t dir s next (Effect.Register dest v) s.masked Observation.Nothing x }
     ensures lands { (t : Table) → Lands t result.effect }
 {
     let masked = s.masked;
@@ -199,7 +199,7 @@ pub(crate) fn simple(
     r: Simple,
 ) -> Plan
     requires { SimpleReaches (words_from z t.now z.arrays 0) r }
-    ensures mem_value { view_plan (table_with z t.now) s result (data_of s regs.now mem.now)
+    ensures plans { view_plan (table_with z t.now) s result (data_of s regs.now mem.now)
         ≡ onward (work (table_with z t.now) r dir s.mis (data_of s regs.now mem.now)) (to (ctl_of s) next) }
     ensures lands { Lands (table_with z t.now) result.effect }
 {

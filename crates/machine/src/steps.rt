@@ -106,8 +106,7 @@ fn acted(k: Took, state: State) -> Acted
     }
 }
 
-// 01: "One step is given the machine's state by reference and updates it there." The body and the next one's are
-// proved by hand, by a walk: a change to either is a change to its proof file.
+// 01: "One step is given the machine's state by reference and updates it there."
 fn step(
     s: &mut State,
     t: &[u8],

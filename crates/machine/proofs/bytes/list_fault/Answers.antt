@@ -1,0 +1,44 @@
+use Rattle.std.proofs.Common.{sym, ◌∙◌, arith, le-ltb, lt-ltb}
+use Rattle.machine.specs.Directives.{list_at}
+use Rattle.machine.proofs.Words.{directive_on, list_bad, list_next, list_end}
+use Rattle.machine.proofs.bytes.list_fault.Goals as goal
+
+pub returns-then-d-gt16384 : goal.returns-then-d-gt16384
+unfolding list_at
+returns-then-d-gt16384 c =
+    let h = c.if-d-gt16384.true in
+    simp lt-ltb
+
+pub returns-in-Bad : goal.returns-in-Bad
+unfolding list_at
+returns-in-Bad c =
+    let d = c.args.d.now in
+    let L = c.loop-at in
+    let h = c.if-d-gt16384.false in
+    let e = sym c.directive_at-told.ensures ∙ c.in-Bad.is in
+    simp (le-ltb, L.invariant.3, list_bad d L.invariant.1 L.at c.loop-at-test.true L.invariant.2 e)
+
+pub loop-at-smaller : goal.loop-at-smaller
+loop-at-smaller c =
+    let d = c.args.d.now in
+    let L = c.loop-at in
+    let e = sym c.directive_at-told.ensures ∙ c.in-Got.is in
+    let o = directive_on d L.at c.loop-at-test.true e in
+    omega arith
+
+pub loop-at-preserved : goal.loop-at-preserved
+loop-at-preserved c =
+    let d = c.args.d.now in
+    let L = c.loop-at in
+    let l = c.loop-at-test.true in
+    let e = sym c.directive_at-told.ensures ∙ c.in-Got.is in
+    let n = list_next d L.invariant.1 L.at l L.invariant.2 e in
+    ((directive_on d L.at l e).1, n.0, n.1, L.invariant.3 ∙ n.2)
+
+pub returns : goal.returns
+unfolding list_at
+returns c =
+    let d = c.args.d.now in
+    let L = c.loop-at in
+    let h = c.if-d-gt16384.false in
+    simp (le-ltb, L.invariant.3, list_end d L.invariant.1 L.at c.loop-at-test.false)
