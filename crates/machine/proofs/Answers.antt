@@ -1,5 +1,5 @@
 -- The answer of a run, by the way it goes: a table that does not read, sizes that differ, a bad list, or the steps.
-use Rattle.std.proofs.Common.{◌≡◌, ℕ, Bool, true, false, eqb, List, length, sym, refl, ◌∙◌, true≢false}
+use Rattle.std.proofs.Common.{◌≡◌, ℕ, Bool, true, false, eqb, List, length, sym, refl, ◌∙◌, true≢false, eqb-true}
 use Rattle.model.specs.Tests.{pick}
 use Rattle.model.specs.declared.Sizes.{Sizes}
 use Rattle.format.specs.Format.{words_from}
@@ -25,6 +25,10 @@ by_misfit : {A : Type 0} (a b : Bool) (x y : A) → pick a b false ≡ false →
 by_misfit true true x y h = absurd (true≢false h)
 by_misfit true false x y h = refl
 by_misfit false b x y h = refl
+
+second : (a b : Bool) → pick a b false ≡ true → b ≡ true
+second true b h = h
+second false b h = absurd (true≢false (sym h))
 
 module _ (t regs mem dirs obs : List ℕ) where
   pub ran_unread : {n p : ℕ} → read_at t ≡ Answer.Refused n p → ran (Refused n p) regs mem obs ≡ run_at t regs mem dirs obs
@@ -53,3 +57,6 @@ module _ (t regs mem dirs obs : List ℕ) where
 
     pub ran_steps : Fit (length regs) z.registers (length mem) words ≡ true → list_at dirs ≡ Good → started z t regs mem dirs obs ≡ run_at t regs mem dirs obs
     ran_steps h l = sym (run_fit h ∙ rw l)
+
+    pub fit_memory : Fit (length regs) z.registers (length mem) words ≡ true → length mem ≡ words
+    fit_memory h = eqb-true (length mem) words (second (eqb (length regs) z.registers) (eqb (length mem) words) h)

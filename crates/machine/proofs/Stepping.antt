@@ -1,7 +1,7 @@
--- What act and one_turn show of their answers, over plain values: act where the step is made (its stops need no law),
--- and one law for each way that one_turn returns.
+-- What act and one_turn show of their answers, over plain values: one law for each way that they return.
 use Rattle.std.proofs.Common.{◌≡◌, ℕ, suc, ◌+◌, ◌-◌, ◌<◌, ◌≤◌, Bool, true, false, List, [], ◌∷◌, length, sym, refl, ap, ◌∙◌, subst, arith, le-ltb, lt-ltb, eq-eqb, ne_eqb}
 use lib.Seq.{sets}
+use borrow.Author.Tests.{lt-leb}
 use Rattle.model.specs.Table.{Table, entry}
 use Rattle.model.specs.Machine.{Ctl, Data, flagged, Went, step, size, ended, run, start_ctl}
 use Rattle.model.specs.declared.Sizes.{Sizes}
@@ -54,6 +54,30 @@ module _ (z : Sizes) (t : List ℕ) (s : State) where
         ready.room f m r
 
   module _ (dir : Directive) (seen : ℕ) (a : Lent) (p : Plan) (r : Acted) (planned : view_plan T s p (here a) ≡ step T (ctl_of s) dir (here a)) where
+    -- a stop of the step's own
+    pub act_stops : (p.stop ≡ 0 → ⊥) → r.stop ≡ p.stop → r.state ≡ s → r.seen ≡ seen → Acts z t s dir seen a r a
+    act_stops n e st u = (
+      λ q. absurd (n (sym e ∙ q)),
+      λ _. record {
+        stays = st;
+        unseen = u;
+        kept = refl;
+        stopped = λ f. rw (← planned, ne_eqb p.stop 0 n, e);
+      },
+    )
+
+    -- no room
+    pub act_full : p.stop ≡ 0 → length a.obs - seen < size p.seen → r.stop ≡ 26 → r.state ≡ s → r.seen ≡ seen → Acts z t s dir seen a r a
+    act_full e l k st u = (
+      λ q. absurd (omega arith),
+      λ _. record {
+        stays = st;
+        unseen = u;
+        kept = refl;
+        stopped = λ f. rw (went dir a p planned e, lt-leb (size p.seen) (length a.obs - seen) l, k);
+      },
+    )
+
     -- the step is made
     pub act_goes : (regs mem obs : List ℕ) → p.stop ≡ 0 → size p.seen ≤ length a.obs - seen
         → ((m : Bool) → words regs mem m ≡ applied T p.effect (words a.regs a.mem m)) → obs ≡ sets a.obs seen (bytes_of p.seen)

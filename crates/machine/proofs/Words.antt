@@ -1,5 +1,7 @@
--- Laws of the arrays' words and where they lie, and of a directive list.
+-- Laws of the arrays' words and where they lie, of a directive list, and of an observation's bytes.
 use Rattle.std.proofs.Common.{◌≡◌, ℕ, zero, suc, ◌+◌, ◌-◌, ◌<◌, ◌≤◌, eqb, ltb, List, [], ◌∷◌, length, get_or, set, refl, ◌∙◌, subst, add-one, sub-one, arith, ltb-false, le-leb}
+use native.Mathlib.Numerals.{add-two, add-three, add-four, add_five}
+use lib.Seq.{sets}
 use borrow.Author.Tests.{lt-leb}
 use borrow.Rule.Slice.PartMut.{mid_of, put_mid, mid_len, set_mid_at}
 use Rattle.model.specs.Tests.{pick_ind}
@@ -109,3 +111,11 @@ pub list_next : (d : List ℕ) (k at : ℕ) {x : Directive} {next : ℕ} → at 
 unfolding list_from
 list_next d zero at l h e = absurd (omega arith)
 list_next d (suc k) at l h e = let o = directive_on d at l e in (k, omega arith, rw (lt-leb (length d) at l, e))
+
+-- ---- AN OBSERVATION'S BYTES, one after another
+pub two : (s : List ℕ) (at a b : ℕ) → set (set s at a) (at + 1) b ≡ sets s at (a ∷ b ∷ [])
+two s at a b = rw add-one
+
+pub six : (s : List ℕ) (at a b c d e f : ℕ)
+    → set (set (set (set (set (set s at a) (at + 1) b) (at + 2) c) (at + 3) d) (at + 4) e) (at + 5) f ≡ sets s at (a ∷ b ∷ c ∷ d ∷ e ∷ f ∷ [])
+six s at a b c d e f = rw (add-one, add-two, add-three, add-four, add_five)
