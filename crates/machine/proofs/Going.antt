@@ -5,7 +5,8 @@ use lib.Seq.{sets}
 use borrow.Author.Tests.{lt-leb}
 use Rattle.model.specs.Memory.{sets_append}
 use Rattle.model.specs.Table.{Table, entry}
-use Rattle.model.proofs.theory.Stands.{Stands, step_stands, stack_bound}
+use Rattle.model.specs.theory.Stands.{Stands}
+use Rattle.model.proofs.theory.Stands.{step_stands, stack_bound}
 use Rattle.model.specs.Machine.{Ctl, Data, Stepped, Stop, Went, step, size, Final, final, observed, after_step, ended, run}
 use Rattle.model.specs.declared.Sizes.{Sizes}
 use Rattle.model.specs.declared.Directive.{Directive}

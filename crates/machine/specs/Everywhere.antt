@@ -10,8 +10,10 @@ use Rattle.model.specs.InOrder.{Chain, chain_le}
 use Rattle.model.proofs.theory.Functions.{ret_alone}
 use Rattle.model.proofs.theory.Places.{spans, look, between, no_return}
 use Rattle.model.proofs.Rules.{reading_laws}
-use Rattle.model.proofs.theory.Code.{Known, At, enters_at, depth}
-use Rattle.model.proofs.theory.Stands.{Stands, EndStands, stack_bound, run_stands}
+use Rattle.model.specs.theory.Code.{Known, At}
+use Rattle.model.proofs.theory.Code.{enters_at, depth}
+use Rattle.model.specs.theory.Stands.{Stands, EndStands}
+use Rattle.model.proofs.theory.Stands.{stack_bound, run_stands}
 use Rattle.model.specs.Machine.{Ctl, Data, Final, final, run, start_ctl}
 use Rattle.model.specs.declared.Sizes.{Sizes}
 use Rattle.model.specs.declared.Directive.{Directive}

@@ -10,7 +10,8 @@ use Rattle.model.specs.theory.Alike.{top}
 use Rattle.model.proofs.theory.Alike.{weaken}
 use Rattle.model.proofs.theory.Secure.{Related, SameEnd, arrive, run_same}
 use Rattle.model.proofs.Rules.{typing_laws}
-use Rattle.model.proofs.theory.Code.{Known, At, enters_at, flows_at, ends_within}
+use Rattle.model.specs.theory.Code.{Known, At}
+use Rattle.model.proofs.theory.Code.{enters_at, flows_at, ends_within}
 use Rattle.model.specs.declared.Directive.{Directive}
 use Rattle.model.specs.TwoRuns.{Agree, SameShown, SameOut}
 

@@ -6,24 +6,17 @@ use Rattle.std.proofs.Math.Path.{refl}
 use Rattle.std.proofs.Common.{subst}
 use Rattle.model.specs.Table.{Table}
 use Rattle.model.specs.Blocks.{TypesFunction}
-use Rattle.model.specs.Rules.{typing, Typed, reading}
-use Rattle.model.proofs.theory.Places.{nesting}
+use Rattle.model.specs.Rules.{typing, Typed}
 use Rattle.model.specs.Walk.{Ending, Reached, Failed, type_function}
 use Rattle.model.specs.declared.Typing.{Typing}
 use Rattle.model.specs.Decide.{typing_tests}
 use Rattle.model.proofs.Decide.{typing_right}
 use Rattle.model.proofs.theory.Passes.{Verdict, verdict, Passes, passes_types}
 use Rattle.model.specs.Levels.{Env}
-use Rattle.model.specs.Typing.{on_pass, type_from, type_all, Says}
+use Rattle.model.specs.Typing.{on_pass, type_from, type_all, Read, Says}
 
 module _ (t : Table) (size : ℕ) where
-  -- every function has been read, nested at most 16 deep, and lies in the table
-  pub record Read (g : ℕ) : Type 0 where
-    pub blocks : TypesFunction t reading g
-    pub nested : nesting t reading blocks.body ≤ 16
-    pub inside : t.ret g < size
-
-  module _ (read : (g : ℕ) → g < t.functions → Read g) where
+  module _ (read : (g : ℕ) → g < t.functions → Read t size g) where
     abbrev Before : ℕ → Type 0
     Before f = (g : ℕ) → g < f → TypesFunction t (typing t) g
 

@@ -1,7 +1,6 @@
 pub mod Settled
 pub mod Words
 pub mod Monotone
-pub mod Flow
 pub mod Places
 pub mod Fixed
 pub mod Passes

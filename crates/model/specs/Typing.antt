@@ -1,7 +1,9 @@
 -- The typing of a whole table: the functions in table order, up to the first fault; and that it is what the rules say.
-use Prim.Native.Nat.{ℕ, zero, suc, ◌-◌}
+use Prim.Native.Nat.{ℕ, zero, suc, ◌-◌, ◌<◌, ◌≤◌}
 use Rattle.model.specs.Table.{Table}
-use Rattle.model.specs.Rules.{typing, Typed}
+use Rattle.model.specs.Blocks.{TypesFunction}
+use Rattle.model.specs.Rules.{typing, Typed, reading}
+use Rattle.model.specs.theory.Places.{nesting}
 use Rattle.model.specs.Faults.{FirstFault}
 use Rattle.model.specs.Walk.{Ending, Reached, Failed, type_function}
 use Rattle.model.specs.declared.Typing.{Typing}
@@ -21,6 +23,12 @@ module _ (t : Table) (size : ℕ) where
 
   abbrev pub type_all : Typing
   type_all = type_from t.functions
+
+  -- every function has been read, nested at most 16 deep, and lies in the table
+  pub record Read (g : ℕ) : Type 0 where
+    pub blocks : TypesFunction t reading g
+    pub nested : nesting t reading blocks.body ≤ 16
+    pub inside : t.ret g < size
 
   abbrev pub Says : Typing → Type 0
   Says Typing.Passes = Typed t

@@ -12,7 +12,8 @@ use Rattle.model.specs.Levels.{Env, within}
 use Rattle.model.specs.Packing.{env_of}
 use Rattle.model.specs.Rules.{after, returned, guarded, typing}
 use Rattle.model.specs.Typing.{type_from, on_pass}
-use Rattle.model.proofs.theory.Whole.{Whole, Where, WhereEnds, guarded_whole, record_whole, block_whole}
+use Rattle.model.specs.theory.Whole.{Whole, Where, WhereEnds}
+use Rattle.model.proofs.theory.Whole.{guarded_whole, record_whole, block_whole}
 use Rattle.model.specs.Walk.{Walking, Onward, Closed, Halt, Ending, Reached, Failed, on_next, on_shut, instr_with, type_block, inside, instr_at_lem, type_function}
 use Rattle.model.specs.Decide.{meets, simple_number, fault_of, typing_tests}
 use Rattle.model.proofs.Decide.{fault_met}

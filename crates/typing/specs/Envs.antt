@@ -3,7 +3,7 @@
 use Rattle.std.specs.Prelude.{ℕ, ◌<◌, ◌≤◌, List, length}
 use Rattle.model.specs.Levels.{Env}
 use Rattle.model.specs.Packing.{slot, env_of}
-use Rattle.model.proofs.theory.Whole.{Whole}
+use Rattle.model.specs.theory.Whole.{Whole}
 use Rattle.model.specs.declared.Sizes.{Sizes}
 use Rattle.model.specs.declared.Status.{Status}
 use Rattle.format.specs.Layout.{in_of, out_of}

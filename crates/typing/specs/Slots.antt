@@ -7,7 +7,8 @@ use Rattle.model.specs.Packing.{env_of}
 use Rattle.model.specs.Records.{Keeps}
 use Rattle.model.specs.Rules.{guarded}
 use Rattle.model.specs.Table.{Table}
-use Rattle.model.proofs.theory.Whole.{Whole, Where, packed_whole, guarded_whole, record_whole}
+use Rattle.model.specs.theory.Whole.{Whole, Where}
+use Rattle.model.proofs.theory.Whole.{packed_whole, guarded_whole, record_whole}
 use Rattle.model.specs.declared.Packed.{Packed}
 use Rattle.model.specs.declared.Record.TheVariants.{While}
 use Rattle.format.specs.Layout.{sizes_of, table_of}

@@ -3,7 +3,7 @@ ghost use Rattle.std.specs.Prelude.{◌≡◌, ℕ};
 ghost use Rattle.model.specs.Levels.{join_status, same_status, covers, join, within};
 ghost use Rattle.model.specs.Packing.{status_of, env_of};
 ghost use Rattle.model.specs.Rules.{kill, guard_status, call_status, guarded, returned};
-ghost use Rattle.model.proofs.theory.Whole.{Whole, NoThrees};
+ghost use Rattle.model.specs.theory.Whole.{Whole, NoThrees};
 ghost use Rattle.typing.specs.Envs.{env_from, view_env};
 
 use crate::WordEnv;

@@ -6,7 +6,7 @@ ghost use Rattle.model.specs.Packing.{slot};
 ghost use Rattle.model.specs.Records.{SimpleFits};
 ghost use Rattle.model.specs.Rules.{beside, written, raised, stored, stored_fixed, fenced, updated, protected, after};
 ghost use Rattle.model.specs.Tests.{pick};
-ghost use Rattle.model.proofs.theory.Whole.{NoThrees};
+ghost use Rattle.model.specs.theory.Whole.{NoThrees};
 ghost use Rattle.model.specs.theory.Words.{NoThree};
 ghost use Rattle.typing.specs.Envs.{view_env, Small};
 

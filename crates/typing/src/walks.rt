@@ -5,7 +5,7 @@ ghost use Rattle.model.specs.Packing.{env_of};
 ghost use Rattle.model.specs.Records.{SimpleFits};
 ghost use Rattle.model.specs.Typing.{type_from};
 ghost use Rattle.model.specs.Walk.{Closed};
-ghost use Rattle.model.proofs.theory.Whole.{NoThrees, WhereEnds};
+ghost use Rattle.model.specs.theory.Whole.{NoThrees, WhereEnds};
 ghost use Rattle.model.specs.declared.Sizes.{Sizes};
 ghost use Rattle.typing.specs.Envs.{view_env, Fit, Signed, Small, Ready};
 ghost use Rattle.typing.specs.Walks.{view_walk, view_end, Close, bare, simple_walk, call_walk, join_walk, back_walk, table, size, record_walk, block_walk, if_walk, while_walk, function_walk};

@@ -1,8 +1,7 @@
 -- The places of a table whose functions all read, or all type: where each stands, what is at it, how deep the stack
 -- gets.
-use Rattle.std.specs.Prelude.{ℕ, suc, ◌+◌, ◌<◌, ◌≡◌, refl, ◌⊎◌, Bool, List, [], ◌∷◌, length}
+use Rattle.std.specs.Prelude.{ℕ, ◌+◌, ◌<◌, ◌≡◌, refl, ◌⊎◌, Bool, List, [], ◌∷◌, length}
 use Rattle.std.proofs.Common.{arith, sym, ◌∙◌, subst, inl, inr, true≢false}
-use Rattle.model.specs.declared.Status.TheVariants.{Unknown}
 use Rattle.model.specs.Records.{length_pos}
 use Rattle.model.specs.InOrder.{Chain, chain_le}
 use Rattle.model.specs.Table.{Table, entry}
@@ -10,16 +9,12 @@ use Rattle.model.specs.declared.Record.{Record}
 use Rattle.model.specs.declared.Record.TheVariants.{Call, Return}
 use Rattle.model.specs.Blocks.{Rules, Laws, Every}
 use Rattle.model.specs.Rules.{reading, Lower}
-use Rattle.model.proofs.theory.Flow.{To, Site, Flow, Flows, Frames}
-use Rattle.model.proofs.theory.Functions.{Called, edge, site_called, ret_alone}
-use Rattle.model.proofs.theory.Places.{Log, All, Here, here, covers, needs, no_return, between, look, each, first, flows, Enters, FlowsAt}
-
--- what reading found out
-pub record Known (t : Table) : Type 0 where
-  pub some_function : (entry t) < t.functions
-  pub fresh : (t.enter ((entry t))).status ≡ Unknown  -- fault 8
-  pub blocks : Every t reading  -- faults 2 to 7
-  pub touch : (f : ℕ) → f < t.functions → edge t (suc f) ≡ t.ret f + 1  -- functions touch, and the last ends the table
+use Rattle.model.specs.theory.Flow.{To, Site, Flow, Flows, Frames}
+use Rattle.model.specs.theory.Functions.{Called}
+use Rattle.model.proofs.theory.Functions.{site_called, ret_alone}
+use Rattle.model.specs.theory.Places.{Log}
+use Rattle.model.proofs.theory.Places.{All, here, covers, needs, no_return, between, look, each, first, flows, Enters, FlowsAt}
+use Rattle.model.specs.theory.Code.{Known, At}
 
 no_call : (i : Record) (f : ℕ) (m : Bool) → i ≡ Return → i ≡ Call f m → ⊥
 no_call i f m p q = true≢false (cc)
@@ -33,42 +28,38 @@ lower t reads g c f m l h k e = go (covers t reading (reads.blocks g l).body c h
     go (inr w) = absurd (omega (arith, chain_le t w))
 
 module _ (t : Table) (reads : Known t) (R : Rules) (typed : Every t R) where
-  -- p, in f, is typed from E
-  abbrev pub At : ℕ → ℕ → R.Env → Type 0
-  At f p E = (l : f < t.functions) × (Log t R (typed f l).body p E ⊎ Here (t.ret f) (typed f l).last p E)
+  abbrev logged : (f : ℕ) (l : f < t.functions) → All t R (At t reads R typed f) (typed f l).body
+  logged f l = each t R (At t reads R typed f) (typed f l).body (λ c G k. (l, inl k))
 
-  abbrev logged : (f : ℕ) (l : f < t.functions) → All t R (At f) (typed f l).body
-  logged f l = each t R (At f) (typed f l).body (λ c G k. (l, inl k))
+  pub enters_at : Laws R → (f : ℕ) → f < t.functions → To t R (At t reads R typed) f (t.start f) (R.enter f)
+  enters_at laws f l = first t R (At t reads R typed) f laws (typed f l).body (logged f l) (l, inr (refl, refl))
 
-  pub enters_at : Laws R → (f : ℕ) → f < t.functions → To t R At f (t.start f) (R.enter f)
-  enters_at laws f l = first t R At f laws (typed f l).body (logged f l) (l, inr (refl, refl))
-
-  pub lower_at : (g c f : ℕ) (m : Bool) (E : R.Env) → At g c E → t.rec c ≡ Call f m → f < g
+  pub lower_at : (g c f : ℕ) (m : Bool) (E : R.Env) → At t reads R typed g c E → t.rec c ≡ Call f m → f < g
   lower_at g c f m E (l, inl k) e =
       let w = look t R _ (typed g l).body (between t R (typed g l).body) c E k in
       lower t reads g c f m l w.0 (omega (arith, chain_le t w.1, length_pos (t.rec c))) e
   lower_at g c f m E (l, inr (p, q)) e = absurd (no_call (t.rec c) f m (rw p (typed g l).returns) e)
 
-  site_at : (f q : ℕ) (m : Bool) → Called t f q m → Site t R At f q m
+  site_at : (f q : ℕ) (m : Bool) → Called t f q m → Site t R (At t reads R typed) f q m
   site_at f q m s = go (covers t R (typed s.caller s.function).body s.call s.met)
     where
-      go : ((G : R.Env) × Log t R (typed s.caller s.function).body s.call G) ⊎ Chain t (t.ret s.caller) s.call → Site t R At f q m
+      go : ((G : R.Env) × Log t R (typed s.caller s.function).body s.call G) ⊎ Chain t (t.ret s.caller) s.call → Site t R (At t reads R typed) f q m
       go (inl w) = record { caller = s.caller; call = s.call; env = w.0; here = (s.function, inl w.1); is = s.is; follows = s.follows }
       go (inr h) = absurd (omega (arith, chain_le t h, s.inside))
 
-  pub flows_at : Laws R → Flows t R At
+  pub flows_at : Laws R → Flows t R (At t reads R typed)
   flows_at laws f p E (l, inl k) =
-      look t R (FlowsAt t R At f) (typed f l).body (flows t R At f laws (typed f l).body (logged f l)
-      (each t R (Enters t R At f) (typed f l).body (λ c G j g m e. enters_at laws g (omega (arith, lower_at f c g m G (l, inl j) e)))) (l, inr (refl, refl))) p E k
-  flows_at laws f p E (l, inr h) = here (λ c G. Flow t R At f c G (t.rec c)) (t.ret f) p (typed f l).last E
+      look t R (FlowsAt t R (At t reads R typed) f) (typed f l).body (flows t R (At t reads R typed) f laws (typed f l).body (logged f l)
+      (each t R (Enters t R (At t reads R typed) f) (typed f l).body (λ c G j g m e. enters_at laws g (omega (arith, lower_at f c g m G (l, inl j) e)))) (l, inr (refl, refl))) p E k
+  flows_at laws f p E (l, inr h) = here (λ c G. Flow t R (At t reads R typed) f c G (t.rec c)) (t.ret f) p (typed f l).last E
       (rw (typed f l).returns ((typed f l).fits, λ q m e. site_at f q m (site_called t reads.blocks reads.touch f q m l e))) h
 
   -- the stack never needs more places than there are functions below the entry
-  pub depth : (f : ℕ) (st : List ℕ) → f < t.functions → Frames t R At f st → length st + f < t.functions
+  pub depth : (f : ℕ) (st : List ℕ) → f < t.functions → Frames t R (At t reads R typed) f st → length st + f < t.functions
   depth f [] l g = omega arith
   depth f (q ∷ qs) l (m, s, g) = omega (arith, depth s.caller qs s.here.0 g, lower_at s.caller s.call f m s.env s.here s.is)
 
   -- at the entry's RETURN the environment is within the entry's out
-  pub ends_within : (f p : ℕ) (E : R.Env) → At f p E → p ≡ t.ret ((entry t)) → R.Within E (R.leave ((entry t)))
+  pub ends_within : (f p : ℕ) (E : R.Env) → At t reads R typed f p E → p ≡ t.ret ((entry t)) → R.Within E (R.leave ((entry t)))
   ends_within f p E (l, inl k) e = absurd (look t R _ (typed f l).body (no_return t R (typed f l).body) p E k (rw e (typed ((entry t)) reads.some_function).returns))
   ends_within f p E (l, inr (u, v)) e = rw (v, ← (ret_alone t reads.blocks reads.touch f (entry t) l reads.some_function (sym u ∙ e))) (typed f l).fits

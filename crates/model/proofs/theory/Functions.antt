@@ -2,7 +2,7 @@
 -- its CALLs.
 use Prim.Native.Nat.{ℕ, zero, suc, ◌+◌, ◌-◌, ◌<◌, ◌≤◌}
 use Rattle.std.proofs.Common.{arith, sym, ap, subst, ◌∙◌, inl, inr, true≢false, le-leb}
-use Rattle.std.specs.Prelude.{◌≡◌, refl, ◌⊎◌, Bool, eqb, leb}
+use Rattle.std.specs.Prelude.{◌≡◌, refl, ◌⊎◌, Bool, leb}
 use Rattle.std.proofs.Math.Option.{some}
 use Rattle.std.proofs.lemmas.Bool.{lt-leb}
 use Rattle.std.proofs.Math.Decide.{ℕ_discrete, dec_lt}
@@ -15,37 +15,21 @@ use Rattle.model.specs.declared.Record.{Record}
 use Rattle.model.specs.declared.Record.TheVariants.{Call, Return}
 use Rattle.model.specs.Rules.{reading}
 use Rattle.model.specs.Blocks.{Every}
-use Rattle.model.proofs.theory.Places.{spans, covers, look, between, Log}
-
--- q follows a CALL of f, marked m, in one of the functions
-pub record Called (t : Table) (f q : ℕ) (m : Bool) : Type 0 where
-  pub caller : ℕ
-  pub call : ℕ
-  pub function : caller < t.functions
-  pub met : Chain t (t.start caller) call
-  pub inside : call < t.ret caller
-  pub is : t.rec call ≡ Call f m
-  pub follows : q ≡ call + 3
+use Rattle.model.proofs.theory.Places.{spans, covers, look, between}
+use Rattle.model.specs.theory.Places.{Log}
+use Rattle.model.specs.theory.Functions.{Called, edge, InFunction}
 
 module _ (t : Table) where
-  -- where function g begins; past the last one, where the code ends
-  abbrev pub edge : ℕ → ℕ
-  edge g = pick (eqb g t.functions) t.size (t.start g)
-
-  -- c is met in one of the functions, its RETURN included
-  abbrev pub InFunction : ℕ → Type 0
-  InFunction c = (g : ℕ) × (g < t.functions) × Chain t (t.start g) c × (c ≤ t.ret g)
-
-  edge_start : (g : ℕ) → g < t.functions → edge g ≡ t.start g
+  edge_start : (g : ℕ) → g < t.functions → edge t g ≡ t.start g
   edge_start g l = same g t.functions (λ b. pick b t.size (t.start g) ≡ t.start g) (λ e. absurd (omega arith)) (λ _. refl)
 
-  edge_end : (g : ℕ) → g ≡ t.functions → edge g ≡ t.size
+  edge_end : (g : ℕ) → g ≡ t.functions → edge t g ≡ t.size
   edge_end g q = same g t.functions (λ b. pick b t.size (t.start g) ≡ t.size) (λ _. refl) (λ n. absurd (n q))
 
   -- of a table that reads: its functions touch, and the last one ends it
-  module _ (blocks : Every t reading) (touch : (g : ℕ) → g < t.functions → edge (suc g) ≡ t.ret g + 1) where
+  module _ (blocks : Every t reading) (touch : (g : ℕ) → g < t.functions → edge t (suc g) ≡ t.ret g + 1) where
     -- whatever is met from function g on is met in one of the functions
-    locate : (n g c : ℕ) → g + n ≡ t.functions → Chain t (edge g) c → c < t.size → InFunction c
+    locate : (n g c : ℕ) → g + n ≡ t.functions → Chain t (edge t g) c → c < t.size → InFunction t c
     locate zero g c e w l =
         let same_g : g ≡ t.functions = omega arith in
         absurd (omega (arith, chain_le t (subst (λ (x : ℕ). Chain t x c) (edge_end g same_g) w)))
@@ -57,16 +41,16 @@ module _ (t : Table) where
         wg : Chain t (t.start g) c
         wg = subst (λ (x : ℕ). Chain t x c) (edge_start g lg) w
 
-        go : ((G : Unit {0}) × Log t reading (blocks g lg).body c G) ⊎ Chain t (t.ret g) c → (Chain t (edge (suc g)) c → InFunction c) → InFunction c
+        go : ((G : Unit {0}) × Log t reading (blocks g lg).body c G) ⊎ Chain t (t.ret g) c → (Chain t (edge t (suc g)) c → InFunction t c) → InFunction t c
         go (inl (G, k)) rest = (g, lg, wg, omega (arith, chain_le t (look t reading _ (blocks g lg).body (between t reading (blocks g lg).body) c G k).1))
         go (inr v) rest = last (meet t (t.ret g) Return (blocks g lg).returns v)
           where
-            last : (c ≡ t.ret g) ⊎ Chain t (t.ret g + 1) c → InFunction c
+            last : (c ≡ t.ret g) ⊎ Chain t (t.ret g + 1) c → InFunction t c
             last (inl u) = (g, lg, wg, omega arith)
             last (inr u) = rest (subst (λ (x : ℕ). Chain t x c) (sym (touch g lg)) u)
 
     -- the code goes on to the table's end
-    reaches_end : (n g : ℕ) → g + n ≡ t.functions → Chain t (edge g) t.size
+    reaches_end : (n g : ℕ) → g + n ≡ t.functions → Chain t (edge t g) t.size
     reaches_end zero g e = rw (edge_end g (omega arith)) stay
     reaches_end (suc n) g e =
         let lg : g < t.functions = omega arith in
@@ -81,9 +65,9 @@ module _ (t : Table) where
         chain_trans t (to_start g lg) (chain_trans t (spans t reading (blocks g lg).body) (on (past t (t.ret g) Return (blocks g lg).returns (subst (Chain t (t.ret g + 1)) next stay))))
 
     -- the list has whatever is met in one of the functions
-    pub met_listed : (c : ℕ) → InFunction c → In c (t.rec c) (code t)
+    pub met_listed : (c : ℕ) → InFunction t c → In c (t.rec c) (code t)
     met_listed c (g, l, w, k) =
-        let end : edge (suc g) ≤ t.size = chain_le t (reaches_end (t.functions - suc g) (suc g) (omega arith)) in
+        let end : edge t (suc g) ≤ t.size = chain_le t (reaches_end (t.functions - suc g) (suc g) (omega arith)) in
         listed t (chain_trans t (to_start g l) w) (omega (arith, end, touch g l))
 
     -- every function's RETURN is listed, and the last one's is the table's last byte

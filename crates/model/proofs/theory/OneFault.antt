@@ -12,10 +12,11 @@ use Rattle.model.specs.Blocks.{Rules, Types, done, one, branch, loop, TypesFunct
 use Rattle.model.specs.Rules.{reading, typing}
 use Rattle.model.specs.Faults.{Faults, fails, past, if_guard, if_first, if_second, if_past, while_arriving, while_guard, while_body, while_end, while_past, FaultsFunction, on_the_way, at_return, FirstFault}
 use Rattle.model.specs.InOrder.{chain_le}
-use Rattle.model.proofs.theory.Places.{nesting, spans}
+use Rattle.model.specs.theory.Places.{nesting}
+use Rattle.model.proofs.theory.Places.{spans}
 use Rattle.model.specs.Walk.{Ending, Failed, on_next, Tests, Right, if_with, while_with, single, instr_with, type_block, type_function, single_at, instr_at_lem}
 use Rattle.model.proofs.theory.Passes.{else_same, walk, blocks, Faulty, below, below₁, Complete, blocks_complete, walk_complete, Passes, passes_types}
-use Rattle.model.proofs.WholeTable.{Read}
+use Rattle.model.specs.Typing.{Read}
 use Rattle.model.specs.Decide.{number_of, typing_tests}
 use Rattle.model.proofs.Decide.{typing_right}
 use Rattle.model.specs.declared.Packed.{Packed}

@@ -12,7 +12,8 @@ use Rattle.model.specs.Blocks.{Rules, Types, done, one, branch, loop, TypesFunct
 use Rattle.model.specs.Rules.{reading}
 use Rattle.model.specs.Faults.{Faults, fails, past, if_guard, if_first, if_second, if_past, while_arriving, while_guard, while_body, while_end, while_past, FaultsFunction, on_the_way, at_return}
 use Rattle.model.specs.InOrder.{chain_le}
-use Rattle.model.proofs.theory.Places.{nesting, spans}
+use Rattle.model.specs.theory.Places.{nesting}
+use Rattle.model.proofs.theory.Places.{spans}
 use Rattle.model.specs.Walk.{Onward, Halt, Ending, Reached, Failed, on_next, on_shut, Tests, Right, if_with, while_with, instr_with, type_block, type_instr, inside, type_function, shut_at, single_at, instr_at_lem}
 use Rattle.model.specs.declared.Packed.{Packed}
 use Rattle.model.specs.declared.Record.{Record}

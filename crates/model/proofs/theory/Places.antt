@@ -1,5 +1,5 @@
 -- From derivations to places: every record of a typed table has an environment, and the flow facts hold there.
-use Rattle.std.specs.Prelude.{ℕ, suc, ◌+◌, max, ◌≡◌, refl, ◌⊎◌, Bool}
+use Rattle.std.specs.Prelude.{ℕ, ◌+◌, ◌≡◌, refl, ◌⊎◌, Bool}
 use Rattle.std.proofs.Common.{subst, inl, inr, true≢false}
 use Rattle.model.specs.Records.{length_of, Single, of_single}
 use Rattle.model.specs.Table.{Table}
@@ -7,10 +7,8 @@ use Rattle.model.specs.declared.Record.{Record}
 use Rattle.model.specs.declared.Record.TheVariants.{Call, If, Else, Endif, While, Endwhile, Return}
 use Rattle.model.specs.Blocks.{Rules, Laws, Types, done, one, branch, loop}
 use Rattle.model.specs.InOrder.{Chain, stay, on, chain_trans, past, meet}
-use Rattle.model.proofs.theory.Flow.{To, Flow}
-
-abbrev pub Here : {X : Type 0} → ℕ → X → ℕ → X → Type 0
-Here p E c G = (c ≡ p) × (G ≡ E)
+use Rattle.model.specs.theory.Flow.{To, Flow}
+use Rattle.model.specs.theory.Places.{Here, Log}
 
 either : {X Y Z : Type 0} → X ⊎ Y → (X → Z) → (Y → Z) → Z
 either (inl x) f g = f x
@@ -20,21 +18,6 @@ pub here : {X : Type 0} (P : ℕ → X → Type 0) (p c : ℕ) (E G : X) → P p
 here P p c E G h (u, v) = rw (u, v) h
 
 module _ (t : Table) (R : Rules) where
-  -- how deep the blocks of a derivation are nested
-  abbrev pub nesting : {g p q : ℕ} {E F : R.Env} → Types t R g p E q F → ℕ
-  nesting done = 0
-  nesting (one s n d) = nesting d
-  nesting (branch i g a j b k z) = max (suc (max (nesting a) (nesting b))) (nesting z)
-  nesting (loop i v g a j u z) = max (suc (nesting a)) (nesting z)
-
-  -- place and environment of each record of a derivation
-  abbrev pub Log : {g p q : ℕ} {E F : R.Env} → Types t R g p E q F → ℕ → R.Env → Type 0
-  Log done c G = ⊥
-  Log (one {p = p} {E = E} s n d) c G = Here p E c G ⊎ Log d c G
-  Log (branch {p = p} {e = e} {n = n} {E = E} {E₁ = E₁} {E₂ = E₂} i g a j b k z) c G =
-      Here p E c G ⊎ Log a c G ⊎ Here e E₁ c G ⊎ Log b c G ⊎ Here n E₂ c G ⊎ Log z c G
-  Log (loop {p = p} {e = e} {E₁ = E₁} {L = L} i v g a j u z) c G = Here p (R.loop L) c G ⊎ Log a c G ⊎ Here e E₁ c G ⊎ Log z c G
-
   pub spans : {g p q : ℕ} {E F : R.Env} → Types t R g p E q F → Chain t p q
   spans done = stay
   spans (one s n d) = on (spans d)
@@ -44,7 +27,7 @@ module _ (t : Table) (R : Rules) where
       on (past t p (While r e L) i (chain_trans t (spans a) (on (past t e (Endwhile p) j (spans z)))))
 
   -- every record met from p on is in the log, or met from q on
-  pub covers : {g p q : ℕ} {E F : R.Env} (d : Types t R g p E q F) (c : ℕ) → Chain t p c → ((G : R.Env) × Log d c G) ⊎ Chain t q c
+  pub covers : {g p q : ℕ} {E F : R.Env} (d : Types t R g p E q F) (c : ℕ) → Chain t p c → ((G : R.Env) × Log t R d c G) ⊎ Chain t q c
   covers done c h = inr h
   covers (one {p = p} {E = E} s n d) c h =
       either (meet t p (t.rec p) refl h) (λ x. inl (E, inl (x, refl))) λ h₁.
@@ -69,7 +52,7 @@ module _ (t : Table) (R : Rules) where
   All P (branch {p = p} {e = e} {n = n} {E = E} {E₁ = E₁} {E₂ = E₂} i g a j b k z) = P p E × All P a × P e E₁ × All P b × P n E₂ × All P z
   All P (loop {p = p} {e = e} {E₁ = E₁} {L = L} i v g a j u z) = P p (R.loop L) × All P a × P e E₁ × All P z
 
-  pub look : (P : ℕ → R.Env → Type 0) {g p q : ℕ} {E F : R.Env} (d : Types t R g p E q F) → All P d → (c : ℕ) (G : R.Env) → Log d c G → P c G
+  pub look : (P : ℕ → R.Env → Type 0) {g p q : ℕ} {E F : R.Env} (d : Types t R g p E q F) → All P d → (c : ℕ) (G : R.Env) → Log t R d c G → P c G
   look P done h c G l = absurd l
   look P (one {p = p} {E = E} s n d) h c G l = either l (here P p c E G h.0) λ l. look P d h.1 c G l
   look P (branch {p = p} {e = e} {n = n} {E = E} {E₁ = E₁} {E₂ = E₂} i g a j b k z) h c G l =
@@ -78,7 +61,7 @@ module _ (t : Table) (R : Rules) where
   look P (loop {p = p} {e = e} {E₁ = E₁} {L = L} i v g a j u z) h c G l =
       either l (here P p c (R.loop L) G h.0) λ l. either l (look P a h.1 c G) λ l. either l (here P e c E₁ G h.2) (look P z h.3 c G)
 
-  pub each : (P : ℕ → R.Env → Type 0) {g p q : ℕ} {E F : R.Env} (d : Types t R g p E q F) → ((c : ℕ) (G : R.Env) → Log d c G → P c G) → All P d
+  pub each : (P : ℕ → R.Env → Type 0) {g p q : ℕ} {E F : R.Env} (d : Types t R g p E q F) → ((c : ℕ) (G : R.Env) → Log t R d c G → P c G) → All P d
   each P done f = tt
   each P (one {p = p} {E = E} s n d) f = (f p E (inl (refl, refl)), each P d (λ c G l. f c G (inr l)))
   each P (branch {p = p} {e = e} {n = n} {E = E} {E₁ = E₁} {E₂ = E₂} i g a j b k z) f = (

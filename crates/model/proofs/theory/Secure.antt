@@ -23,7 +23,7 @@ use Rattle.model.specs.Rules.{Needs, guard_status, call_status, guarded, after, 
 use Rattle.model.specs.Machine.{Ctl, Data, Work, halt, did, Stepped, Stop, Went, reg, holds, flagged, plain, onward, to, pop, work, fork, wrong, right, back, step_of, step, size, Final, final, observed, after_step, ended, run}
 use Rattle.model.specs.theory.Alike.{top, Flag, Alike}
 use Rattle.model.proofs.theory.Alike.{Works, weaken, public, simple_works}
-use Rattle.model.proofs.theory.Flow.{To, Site, Flow, Flows, Frames}
+use Rattle.model.specs.theory.Flow.{To, Site, Flow, Flows, Frames}
 
 -- ---- branches: the levels on which the runs agree can only fall
 top_fork : (mis b : Bool) → top (mis || b) ≤ top mis

@@ -10,7 +10,7 @@ use Rattle.model.specs.Packing.{env_of, levels_in, packed_in}
 use Rattle.model.specs.Records.{SimpleFits, Fits, Keeps, by_single_lem}
 use Rattle.model.specs.Table.{Table}
 use Rattle.model.specs.Rules.{settle, beside, written, raised, guarded, after, after_of, typing}
-use Rattle.model.specs.theory.Words.{NoThree, Levelled}
+use Rattle.model.specs.theory.Words.{Levelled}
 use Rattle.model.proofs.theory.Words.{levels_in_lem}
 use Rattle.model.specs.Decide.{typing_tests, meets_of}
 use Rattle.model.specs.Walk.{Walking, Onward, Closed, Halt, Ending, Reached, Failed, on_next, on_shut, if_with, while_with, instr_with, type_block, type_instr}
@@ -19,15 +19,7 @@ use Rattle.model.specs.declared.Simple.{Simple}
 use Rattle.model.specs.declared.Simple.TheVariants.{Const, Op, Select, Load, Store, Init, Update, Protect, LoadFixed, StoreFixed}
 use Rattle.model.specs.declared.Record.{Record}
 use Rattle.model.specs.declared.Record.TheVariants.{Do, Call, If, Else, Endif, While, Endwhile, Return}
-
--- over n registers and m arrays
-pub record Whole (n m : ℕ) (E : Env) : Type 0 where
-  pub regs : Levelled n E.regs
-  pub arrays : Levelled m E.arrays
-
--- no slot is 3, used or not
-abbrev pub NoThrees : Env → Type 0
-NoThrees E = NoThree E.regs × NoThree E.arrays
+use Rattle.model.specs.theory.Whole.{Whole, NoThrees, Where, WhereEnds}
 
 pub no_threes : (n m : ℕ) (E : Env) → Whole n m E → NoThrees E
 no_threes n m E w = (w.regs.known, w.arrays.known)
@@ -95,16 +87,6 @@ module _ (n m : ℕ) (E : Env) (w : Whole n m E) where
 
 pub join_whole : (n m : ℕ) (E F : Env) → Whole n m E → Whole n m F → Whole n m (join E F)
 join_whole n m E F w v = record { regs = join_levelled n E.regs F.regs w.regs v.regs; arrays = join_levelled m E.arrays F.arrays w.arrays v.arrays }
-
--- P of the environment where the walk of a record came, and where that of a block ended
-abbrev pub Where : (Env → Type 0) → Walking Env → Type 0
-Where P (Onward p E) = P E
-Where P (Closed p E) = P E
-Where P (Halt n p) = Unit {0}
-
-abbrev pub WhereEnds : (Env → Type 0) → Ending Env → Type 0
-WhereEnds P (Reached p E) = P E
-WhereEnds P (Failed n p) = Unit {0}
 
 pub ends_map : (P Q : Env → Type 0) → ((E : Env) → P E → Q E) → (w : Ending Env) → WhereEnds P w → WhereEnds Q w
 ends_map P Q f (Reached p E) h = f E h

@@ -12,7 +12,7 @@ use Rattle.model.specs.Packing.{packed_in}
 use Rattle.model.specs.Table.{entry}
 use Rattle.model.specs.Blocks.{Every}
 use Rattle.model.specs.Rules.{reading}
-use Rattle.model.proofs.theory.Code.{Known}
+use Rattle.model.specs.theory.Code.{Known}
 use Rattle.model.specs.declared.Sizes.{Sizes}
 use Rattle.format.specs.Format.{byte, word16, packed_at}
 use Rattle.format.specs.Head.{then, sizes_at, array_at, signature_at, arrays_at, signatures_at}

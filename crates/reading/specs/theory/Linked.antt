@@ -11,9 +11,9 @@ use Rattle.model.specs.Records.{length_of, Single, Closes, of_closing}
 use Rattle.model.specs.Table.{Table}
 use Rattle.model.specs.Blocks.{Types, done, one, branch, loop}
 use Rattle.model.specs.Rules.{reading, Lower}
-use Rattle.model.proofs.theory.Places.{nesting}
-use Rattle.model.proofs.theory.Functions.{edge}
-use Rattle.model.proofs.WholeTable.{Read}
+use Rattle.model.specs.theory.Places.{nesting}
+use Rattle.model.specs.theory.Functions.{edge}
+use Rattle.model.specs.Typing.{Read}
 use Rattle.model.specs.declared.Sizes.{Sizes}
 use Rattle.model.specs.declared.Packed.{Packed}
 use Rattle.model.specs.declared.Record.{Record}

@@ -15,7 +15,8 @@ use Rattle.model.specs.Records.{Fits, Keeps, length_of}
 use Rattle.model.specs.Levels.{Env}
 use Rattle.format.specs.Laws.{good}
 use Rattle.model.specs.Packing.{env_of}
-use Rattle.model.proofs.theory.Whole.{NoThrees, no_threes, packed_whole, ends_map}
+use Rattle.model.specs.theory.Whole.{NoThrees}
+use Rattle.model.proofs.theory.Whole.{no_threes, packed_whole, ends_map}
 use Rattle.typing.specs.Walks.{view_end, simple_walk, call_walk, join_walk, back_walk, size, block_walk}
 use Rattle.typing.specs.Envs.{view_env, Fit}
 use Rattle.typing.proofs.Ready.{moved}
