@@ -10,8 +10,8 @@
 //! why: SENTENCE             what the refused goals say, and why that is false now
 //! ```
 //!
-//! HOME is the file that states the goal: `specs/NAME` for a law, `MODULE/FUNCTION` for a need of a function (a cycle of
-//! functions is `MODULE/+one+other`), with or without a proof file of its own.
+//! HOME is the file that states the goal: `proofs/NAME` or `specs/NAME` for a law, `MODULE/FUNCTION` for a goal of a function
+//! (`MODULE/+FUNCTION` where it calls itself, `MODULE/+CYCLE` in a cycle of calls), with or without a proof file of its own.
 
 use std::fmt;
 

@@ -2,21 +2,23 @@
 //!
 //! `rt ci` tries crates/NAME/must-fail/LABEL.edit as a whole and says that the crate so changed was refused. A file holds
 //! several wrong programs here, so that one check serves them all. That each of them is refused for itself, at the goals that
-//! it makes false, and that no goal merely vanished, is read off the log that rt leaves.
+//! it makes false, and that no goal merely vanished, is read off the log of a check of the crate with all of them in it.
 //!
 //! * [`edit`]: what an edit file says. [`log`]: what the prover said.
 //! * [`source`]: the functions that a wrong program changes. [`judge`]: the two held together.
-//! * [`alone`]: one wrong program by itself, in seconds.
+//! * [`bench`]: the copies in which changed crates are checked. [`alone`]: one wrong program by itself, in seconds.
 
 #![forbid(unsafe_code)]
 
 pub mod alone;
+pub mod bench;
 pub mod edit;
 pub mod judge;
 pub mod log;
 pub mod source;
 
-use edit::Edit;
+use bench::{Bench, Trial};
+use edit::{Edit, Wrong};
 use source::Sources;
 use std::fs;
 use std::path::{Path, PathBuf};
@@ -39,11 +41,22 @@ pub fn edits(root: &Path) -> Result<Vec<Edit>, String> {
     Ok(edits)
 }
 
+/// Checks the crate of each edit with all its wrong programs in it, and leaves each log below LOGS. Answers why there is none.
+pub fn try_all(root: &Path, logs: &Path, edits: &[&Edit]) -> Result<Vec<String>, String> {
+    let trials: Vec<Trial> = edits.iter().map(|edit| trial(logs, edit)).collect();
+    for trial in &trials {
+        // (no log of an earlier run is to be read)
+        let _ = fs::remove_file(&trial.log);
+    }
+    let tried = Bench::new(root)?.try_all(&trials);
+    Ok(edits.iter().zip(tried).filter_map(|(edit, tried)| Some(format!("{}: {}", edit.name(), tried.err()?))).collect())
+}
+
 /// All that does not hold of an edit, by its text and by the log below LOGS.
 pub fn complaints(root: &Path, logs: &Path, edit: &Edit) -> Vec<String> {
     let mut sources = Sources::of(&crate_folder(root, &edit.crate_name));
     let mut complaints = judge::of_text(edit, &mut sources);
-    let path = logs.join(&edit.crate_name).join(&edit.label).join(".log");
+    let path = log_of(logs, edit);
     match fs::read_to_string(&path) {
         Ok(log) => complaints.extend(judge::of_log(edit, &log::parse(&edit.crate_name, &log))),
         Err(error) => complaints.push(format!("no log: {}: {}", path.display(), error)),
@@ -53,6 +66,15 @@ pub fn complaints(root: &Path, logs: &Path, edit: &Edit) -> Vec<String> {
 
 pub fn crate_folder(root: &Path, crate_name: &str) -> PathBuf {
     root.join("crates").join(crate_name)
+}
+
+fn trial(logs: &Path, edit: &Edit) -> Trial {
+    let changes = edit.wrongs.iter().flat_map(|wrong: &Wrong| wrong.changes.iter().cloned()).collect();
+    Trial { crate_name: edit.crate_name.clone(), name: edit.name(), changes, log: log_of(logs, edit) }
+}
+
+fn log_of(logs: &Path, edit: &Edit) -> PathBuf {
+    logs.join(&edit.crate_name).join(format!("{}.log", edit.label))
 }
 
 fn entries(folder: &Path) -> Result<Vec<PathBuf>, String> {

@@ -1,7 +1,8 @@
 //! The files of a crate as the changes of an edit leave them, and the functions in which the changes lie.
 
-use crate::edit::Change;
+use crate::edit::{Change, Goal};
 use std::collections::{BTreeMap, BTreeSet};
+use std::fmt;
 use std::fs;
 use std::path::{Path, PathBuf};
 
@@ -10,15 +11,53 @@ pub struct Sources {
     texts: BTreeMap<String, String>,
 }
 
+/// A function of src/: `walks/call`.
+#[derive(Clone, Debug, PartialEq, Eq, PartialOrd, Ord)]
+pub struct Function {
+    folder: String,
+    name: String,
+    /// The cycle of calls that it is said to be in, by `#[cycle(NAME)]`.
+    cycle: Option<String>,
+}
+
+impl Function {
+    /// Its goals stand in `walks/call`, in `walks/+call` where it calls itself, or, as `call-GOAL`, in the file of its cycle.
+    pub fn has(&self, goal: &Goal) -> bool {
+        let in_cycle = self.cycle.as_ref().map_or(false, |cycle| {
+            goal.home == self.place(&format!("+{}", cycle)) && goal.name.starts_with(&format!("{}-", self.name))
+        });
+        in_cycle || goal.home == self.place(&self.name) || goal.home == self.place(&format!("+{}", self.name))
+    }
+
+    /// The proof of the function, or of its cycle, stands in that folder below proofs/.
+    pub fn is_proved_in(&self, home: &str) -> bool {
+        self.has(&Goal::new(home, &format!("{}-", self.name)))
+    }
+
+    fn place(&self, name: &str) -> String {
+        if self.folder.is_empty() {
+            name.to_string()
+        } else {
+            format!("{}/{}", self.folder, name)
+        }
+    }
+}
+
+impl fmt::Display for Function {
+    fn fmt(&self, f: &mut fmt::Formatter<'_>) -> fmt::Result {
+        f.write_str(&self.place(&self.name))
+    }
+}
+
 impl Sources {
     /// The files of the crate in FOLDER.
     pub fn of(folder: &Path) -> Sources {
         Sources { folder: folder.to_path_buf(), texts: BTreeMap::new() }
     }
 
-    /// Makes the changes, as rt does: each `old:` text must stand once in its file as changed so far. Answers the functions
-    /// (`MODULE/NAME`) of src/ in which they lie.
-    pub fn apply(&mut self, changes: &[Change]) -> Result<BTreeSet<String>, String> {
+    /// Makes the changes, as rt does: each `old:` text must stand once in its file as changed so far. Answers the functions of
+    /// src/ in which they lie.
+    pub fn apply(&mut self, changes: &[Change]) -> Result<BTreeSet<Function>, String> {
         let mut functions = BTreeSet::new();
         for change in changes {
             let text = self.text(&change.file)?;
@@ -29,7 +68,7 @@ impl Sources {
             };
             let after = at + change.old.len();
             if let Some(module) = change.file.strip_prefix("src/") {
-                functions.extend(function_at(&text[..after]).map(|name| home_of(module, name)));
+                functions.extend(function_at(module, &text[..after]));
             }
             let changed = [&text[..at], &change.new, &text[after..]].concat();
             self.texts.insert(change.file.clone(), changed);
@@ -42,7 +81,8 @@ impl Sources {
         self.texts.iter()
     }
 
-    fn text(&mut self, file: &str) -> Result<String, String> {
+    /// A file as it is now.
+    pub fn text(&self, file: &str) -> Result<String, String> {
         match self.texts.get(file) {
             Some(text) => Ok(text.clone()),
             None => fs::read_to_string(self.folder.join(file)).map_err(|error| format!("{}: {}", file, error)),
@@ -50,22 +90,23 @@ impl Sources {
     }
 }
 
-/// The name of the last function that begins in a text.
-fn function_at(text: &str) -> Option<&str> {
-    let line = text.lines().filter(|line| is_head(line)).last()?;
-    let name = line.split("fn ").nth(1)?;
-    name.split(|letter: char| !(letter.is_alphanumeric() || letter == '_')).next()
+/// The last function that begins in a text, which is the start of src/MODULE.
+fn function_at(module: &str, text: &str) -> Option<Function> {
+    let lines: Vec<&str> = text.lines().collect();
+    let at = lines.iter().rposition(|line| is_head(line))?;
+    let name = lines[at].split("fn ").nth(1)?;
+    let name = name.split(|letter: char| !(letter.is_alphanumeric() || letter == '_')).next()?;
+    // The attributes stand on the lines right above.
+    let attributes = lines[..at].iter().rev().take_while(|line| line.starts_with("#["));
+    let cycle = attributes.filter_map(|line| line.strip_prefix("#[cycle(")?.split(')').next()).next();
+    let folder = match module.trim_end_matches(".rt") {
+        "lib" | "main" => String::new(),
+        module => module.to_string(),
+    };
+    Some(Function { folder, name: name.to_string(), cycle: cycle.map(str::to_string) })
 }
 
 /// `pub(crate) fn name(`, at the start of a line.
 fn is_head(line: &str) -> bool {
     line.starts_with("fn ") || (line.starts_with("pub") && line.contains("fn "))
-}
-
-/// Where the needs of a function of src/MODULE stand below proofs/.
-fn home_of(module: &str, name: &str) -> String {
-    match module.trim_end_matches(".rt") {
-        "lib" | "main" => name.to_string(),
-        module => format!("{}/{}", module, name),
-    }
 }
