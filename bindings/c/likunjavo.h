@@ -1,7 +1,7 @@
 /*
  * Likunjavo for C and C++: the check, the message and the run, out of the archive that
  *
- *     rt staticlib likunjavo
+ *     tools/archive
  *
  * writes to target/staticlib/liblikunjavo.a. It is x86-64 code that calls nothing, not even the C library. To link:
  *

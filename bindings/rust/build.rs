@@ -1,4 +1,4 @@
-//! Finds the archive that `rt staticlib likunjavo` writes.
+//! Finds the archive that `tools/archive` writes.
 
 use std::env;
 use std::path::Path;
@@ -10,9 +10,7 @@ fn main() {
     println!("cargo:rerun-if-changed={}", archive.display());
     if !archive.is_file() {
         eprintln!("{} is missing.", archive.display());
-        eprintln!(
-            "Run `rt staticlib likunjavo` at the repository's root, or start with `tests/run`."
-        );
+        eprintln!("Run `tools/archive` at the repository's root, or start with `tests/run`.");
         std::process::exit(1);
     }
     println!("cargo:rustc-link-search=native={}", folder.display());

@@ -1,6 +1,6 @@
 //! Likunjavo for Rust: the proved check, message and run of instruction tables.
 //!
-//! The functions are those of the archive that `rt staticlib likunjavo` writes. Nothing has to be tested before a
+//! The functions are those of the archive that `tools/archive` writes. Nothing has to be tested before a
 //! call: none of them asks more of what it is lent than a Rust reference gives, and empty slices are as good as
 //! others. Nothing is kept between two calls, so several threads may call at once. A call needs at most 16 KiB of
 //! stack.
