@@ -1,6 +1,6 @@
 // Levels: 0 public, 1 transient, 2 secret; and packed words of them, sixteen slots of two bits, slot 0 lowest. The
 // functions of two words, and those of every slot, work on the whole word at once. Each contract holds for every
-// word; what the forms that it names mean, slot by slot, is proved in Rattle.model.specs.theory.Words.
+// word; what the forms that it names mean, slot by slot, is proved in Rattle.model.proofs.theory.Words.
 #![tactic(auto)]
 
 ghost use Rattle.std.specs.Prelude.{◌≡◌, ◌%◌, max, min, ltb};

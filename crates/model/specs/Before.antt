@@ -1,5 +1,5 @@
--- The rules as they were before order 3, for one statement: tables that passed before still pass. Only it and its
--- example (secure's Gauge) speak of them.
+-- The rules as they were before order 3, for one statement: tables that passed before still pass (proofs/Before). Only
+-- it and its example (secure's Gauge) speak of them.
 use Rattle.std.specs.Prelude.{ℕ}
 use Rattle.model.specs.Levels.{Env}
 use Rattle.model.specs.Table.{Table}

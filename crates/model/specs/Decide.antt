@@ -1,4 +1,5 @@
--- Document 01's rules as tests, with the numbers of their faults; and that the tests decide the rules.
+-- Document 01's rules as tests, with the numbers of their faults. That the tests decide the rules stands in
+-- proofs/Decide.
 use Rattle.std.specs.Prelude.{ℕ, Bool, true, eqb}
 use Rattle.model.specs.Tests.{pick}
 use Rattle.model.specs.Levels.{Env, within, same_status}

@@ -1,6 +1,7 @@
 -- Demand 3 over tables that have been read: two runs of a typed table, from starts that agree on what the entry's
 -- in-environment calls public or transient, observe alike and stop alike. Stated for any start, misspeculating or not
--- (order 11 asks for both), and with what the two runs still agree on where they end.
+-- (order 11 asks for both), and with what the two runs still agree on where they end. The statement itself and its
+-- proof stand in proofs/TwoRuns.
 use Rattle.std.specs.Prelude.{ℕ, ◌≤◌, ◌<◌, ◌≡◌, Bool, length}
 use Rattle.model.specs.Table.{Table, entry}
 use Rattle.model.specs.Machine.{Data, reg, words_of, word_at, Final, final}

@@ -1,4 +1,5 @@
--- The typing of a whole table: the functions in table order, up to the first fault; and that it is what the rules say.
+-- The typing of a whole table: the functions in table order, up to the first fault. That it is what the rules say
+-- stands in proofs/WholeTable.
 use Prim.Native.Nat.{ℕ, zero, suc, ◌-◌, ◌<◌, ◌≤◌}
 use Rattle.model.specs.Table.{Table}
 use Rattle.model.specs.Blocks.{TypesFunction}

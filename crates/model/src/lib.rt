@@ -1,5 +1,5 @@
 // The words of document 01 that every crate shares: statuses, packed environments, records.
-// What they mean stands in specs/, in 01's order; the theorems over them too.
+// What they mean stands in specs/, in 01's order; the theorems over them in proofs/, and beside short definitions.
 #![tactic(auto)]
 
 // The numbers of the sizes record.

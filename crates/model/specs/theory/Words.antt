@@ -1,7 +1,7 @@
 -- Order 2: packed words. A word of n slots, below 4 ^ n, holds two bits a slot, slot 0 lowest (Packing). What levels
--- are, within and the join stand in Levels; here are the forms that work on a whole word at once, and the laws that
--- say what they mean. The laws ask two things of a word: no slot is 3, and the slots that a table does not use are 0.
--- They hold for any width n.
+-- are, within and the join stand in Levels; here are the forms that work on a whole word at once; the laws that say
+-- what they mean stand in proofs/theory/Words. They ask two things of a word: no slot is 3, and the slots that a table
+-- does not use are 0. They hold for any width n.
 use Prim.Native.Nat.{ℕ, zero, suc, ◌+◌, ◌*◌, ◌/◌, ◌^◌, ◌<◌, ◌≤◌}
 use Rattle.std.specs.Prelude.{◌≡◌, Bool, eqb}
 use Rattle.std.specs.Int.Bits.{bit_and, bit_or, bit_xor}
