@@ -107,12 +107,24 @@ fn proofs_before(wrong: &Wrong, sources: &Sources) -> BTreeMap<String, String> {
     files.filter_map(|file| Some((file.clone(), sources.text(file).ok()?))).collect()
 }
 
-/// Two texts of a proof differ, comments and spaces aside, in names of goals and of places in the code alone.
+/// Two texts of a proof differ, comments and spaces aside, in names of goals and of places in the code alone: each is called
+/// otherwise throughout, by a name that did not stand there.
 fn only_renames(before: &str, after: &str) -> bool {
     let (before, after) = (without_comments(before), without_comments(after));
     let (old, new) = (words(&before), words(&after));
-    let is_place = |word: &str| ["if-", "then-", "else-", "in-"].iter().any(|part| word.to_lowercase().contains(part));
-    old.len() == new.len() && old.iter().zip(&new).all(|(old, new)| old == new || (is_place(old) && is_place(new)))
+    let mut names: BTreeMap<&str, &str> = BTreeMap::new();
+    old.len() == new.len()
+        && old.iter().zip(&new).all(|(&word, &now)| {
+            let is_renamed = is_place(word) && is_place(now) && !old.contains(&now);
+            *names.entry(word).or_insert(now) == now && (word == now || is_renamed)
+        })
+}
+
+/// `if-a-le1`, `in-Got`, or a goal behind one: `returns-then-a-le1`.
+fn is_place(word: &str) -> bool {
+    let is_branch = |part: &str| ["if", "then", "else", "in"].contains(&part);
+    let parts: Vec<&str> = word.split('-').collect();
+    parts.len() > 1 && parts[..parts.len() - 1].iter().any(|part| is_branch(part))
 }
 
 /// A text of antt without what stands in `{- -}`. (Comments of the other sort are held to what they were, as text is.)

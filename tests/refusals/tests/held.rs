@@ -273,6 +273,8 @@ fn a_proof_may_follow_the_names_of_its_code_and_nothing_more() {
     let more = ["sum-is-a-product: more than names of goals and places changes in proofs/pair/sum/Answers.antt"];
     assert_eq!(of(own, "1 ≤ a", "2 ≤ a"), more);
     assert_eq!(of(own, "c.if-a-le1.true", "c.if-a-le1.true, h"), more);
+    assert_eq!(of(own, "c.if-a-le1.true", "c.join-a-le2.true"), more);
+    assert_eq!(of(own, "c.if-a-le1.true", "c.returns-then-a-le1.true"), more);
     assert_eq!(of(own, "omega (arith", "{- omega (arith"), more);
     let other = "proofs/pair/first/Answers.antt";
     assert_eq!(
