@@ -3,7 +3,7 @@
 use Rattle.model.specs.Table.{Table}
 use Rattle.model.specs.Levels.{Env}
 use Rattle.model.specs.Blocks.{Laws}
-use Rattle.model.specs.Rules.{typing_by, typing, reading}
+use Rattle.model.specs.Rules.{after, typing_by, typing, reading}
 use Rattle.model.specs.declared.Simple.{Simple}
 use Rattle.model.proofs.Levels.{within_refl, within_trans, join_left, join_right}
 
@@ -16,12 +16,7 @@ typing_by_laws t rule = record {
 }
 
 pub typing_laws : (t : Table) → Laws (typing t)
-typing_laws t = record {
-  within_refl = within_refl t.registers t.arrays;
-  within_trans = within_trans t.registers t.arrays;
-  join_left = join_left t.registers t.arrays;
-  join_right = join_right t.registers t.arrays;
-}
+typing_laws t = typing_by_laws t (after t.arrays)
 
 pub reading_laws : Laws reading
 reading_laws = record {
