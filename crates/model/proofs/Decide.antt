@@ -1,19 +1,20 @@
 -- The tests (specs/Decide) decide document 01's rules.
-use Rattle.std.specs.Prelude.{ℕ, ◌≡◌, refl, ◌↔◌, Bool, true, false, eqb}
-use Rattle.std.proofs.Common.{arith, eqb-true, eq-eqb}
+use Rattle.std.specs.Prelude.{ℕ, ◌≡◌, refl, ◌↔◌, Bool, true, false, eqb, Option, Some, None, is_some, T}
+use Rattle.std.proofs.Common.{subst, eqb-true, eq-eqb}
 use Rattle.model.specs.Tests.{pick, Decides, pick_ind}
-use Rattle.model.specs.Levels.{Env, same_status}
+use Rattle.model.specs.Levels.{Env}
 use Rattle.model.proofs.Levels.{within_is, same_status_is}
 use Rattle.model.specs.Records.{by_singles}
 use Rattle.model.specs.Table.{Table}
 use Rattle.model.specs.Rules.{Needs, NeedsOf, typing}
 use Rattle.model.specs.Walk.{Right}
+use Rattle.model.specs.declared.Fault.{Fault}
 use Rattle.model.specs.declared.Status.TheVariants.{Updated, Outdated}
 use Rattle.model.specs.declared.Simple.{Simple}
 use Rattle.model.specs.declared.Simple.TheVariants.{Const, Op, Select, Load, Store, Init, Update, Protect, LoadFixed, StoreFixed}
 use Rattle.model.specs.declared.Record.{Record}
 use Rattle.model.specs.declared.Record.TheVariants.{Do}
-use Rattle.model.specs.Decide.{meets, simple_number, fault_of, number_of, meets_of, typing_tests}
+use Rattle.model.specs.Decide.{meets, simple_fault, fault_of, record_fault, meets_of, typing_tests}
 
 level_is : (l : ℕ) → Decides (l ≡ 0) (eqb l 0)
 level_is l = (eqb-true l 0, eq-eqb l 0)
@@ -33,29 +34,19 @@ meets_is (Protect d s) E = same_status_is E.status Updated
 meets_is (LoadFixed d a i) E = asks_nothing
 meets_is (StoreFixed a i s) E = asks_nothing
 
--- what can fail has a number that is not 0
-sure : (b : Bool) (n : ℕ) → (n ≡ 0 → ⊥) → pick b 0 n ≡ 0 → b ≡ true
-sure true n h e = refl
-sure false n h e = absurd (h e)
+pub fault_met : (s : Simple) (E : Env) → fault_of s E ≡ None → meets s E ≡ true
+fault_met s E = pick_met (meets s E)
+  where
+    pick_met : (b : Bool) → pick b None (Some (simple_fault s)) ≡ None → b ≡ true
+    pick_met true e = refl
+    pick_met false e = absurd (subst (λ (o : Option Fault). T (is_some o)) e tt)
 
-pub fault_met : (s : Simple) (E : Env) → fault_of s E ≡ 0 → meets s E ≡ true
-fault_met (Const d v) E e = refl
-fault_met (Op d o l r) E e = refl
-fault_met (Select d c y n) E e = refl
-fault_met (Load d a i) E e = sure (eqb (E.regs i) 0) 10 (λ h. omega (arith, h)) e
-fault_met (Store a i s) E e = sure (eqb (E.regs i) 0) 10 (λ h. omega (arith, h)) e
-fault_met Init E e = refl
-fault_met (Update r s) E e = sure (same_status E.status (Outdated r s)) 11 (λ h. omega (arith, h)) e
-fault_met (Protect d s) E e = sure (same_status E.status Updated) 11 (λ h. omega (arith, h)) e
-fault_met (LoadFixed d a i) E e = refl
-fault_met (StoreFixed a i s) E e = refl
-
--- fault_of is 0 exactly where the record has what it asks, and else its number
-pub fault_none : (s : Simple) (E : Env) → (fault_of s E ≡ 0) ↔ Needs s E
+-- fault_of is none exactly where the record has what it asks, and else its own
+pub fault_none : (s : Simple) (E : Env) → (fault_of s E ≡ None) ↔ Needs s E
 fault_none s E = (λ e. (meets_is s E).0 (fault_met s E e), λ n. rw ((meets_is s E).1 n) refl)
 
-pub fault_some : (s : Simple) (E : Env) → (Needs s E → ⊥) → fault_of s E ≡ number_of (Do s)
-fault_some s E f = pick_ind (λ n. n ≡ simple_number s) (meets s E) (λ e. absurd (f ((meets_is s E).0 e))) (λ _. refl)
+pub fault_some : (s : Simple) (E : Env) → (Needs s E → ⊥) → fault_of s E ≡ Some (record_fault (Do s))
+fault_some s E f = pick_ind (λ n. n ≡ Some (simple_fault s)) (meets s E) (λ e. absurd (f ((meets_is s E).0 e))) (λ _. refl)
 
 module _ (t : Table) where
   meets_of_is : (i : Record) (E : Env) → Decides (NeedsOf t i E) (meets_of t i E)

@@ -1,14 +1,13 @@
 -- What the typing of a whole table (specs/Typing) answers is what the rules say.
 use Prim.Native.Nat.{ℕ, zero, suc, ◌-◌, ◌<◌, ◌≤◌}
 use native.Mathlib.Omega.{arith}
-use Rattle.std.specs.Prelude.{◌≡◌, ◌↔◌}
+use Rattle.std.specs.Prelude.{◌≡◌, ◌↔◌, Ok}
 use Rattle.std.proofs.Math.Path.{refl}
 use Rattle.std.proofs.Common.{subst}
 use Rattle.model.specs.Table.{Table}
 use Rattle.model.specs.Blocks.{TypesFunction}
 use Rattle.model.specs.Rules.{typing, Typed}
 use Rattle.model.specs.Walk.{Ending, Reached, Failed, type_function}
-use Rattle.model.specs.declared.Typing.{Typing}
 use Rattle.model.specs.Decide.{typing_tests}
 use Rattle.model.proofs.Decide.{typing_right}
 use Rattle.model.proofs.theory.Passes.{Verdict, verdict, Passes, passes_types}
@@ -45,7 +44,7 @@ module _ (t : Table) (size : ℕ) where
     pub type_says : Says t size (type_all t size)
     type_says = says_from t.functions (omega arith) (λ g k. absurd (omega arith))
 
-    typed_passes : Typed t → (n : ℕ) → n ≤ t.functions → type_from t size n ≡ Typing.Passes
+    typed_passes : Typed t → (n : ℕ) → n ≤ t.functions → type_from t size n ≡ Ok tt
     unfolding type_from
     typed_passes d zero l = refl
     typed_passes d (suc n) l =
@@ -54,10 +53,10 @@ module _ (t : Table) (size : ℕ) where
         let r = read g lg in
         go (type_function t (typing t) (typing_tests t) size g) ((passes_types t (typing t) (typing_tests t) g size (typing_right t g) r.blocks r.nested r.inside).1 (d g lg)) (typed_passes d n (omega arith))
       where
-        go : (w : Ending Env) → Passes t (typing t) (typing_tests t) (t.functions - suc n) size (typing_right t (t.functions - suc n)) w → type_from t size n ≡ Typing.Passes → on_pass w (type_from t size n) ≡ Typing.Passes
+        go : (w : Ending Env) → Passes t (typing t) (typing_tests t) (t.functions - suc n) size (typing_right t (t.functions - suc n)) w → type_from t size n ≡ Ok tt → on_pass w (type_from t size n) ≡ Ok tt
         go (Reached p E) h ih = ih
         go (Failed m p) h ih = absurd h
 
     -- typing passes exactly the tables whose every function the rules type
-    pub passes_typed : (type_all t size ≡ Typing.Passes) ↔ Typed t
+    pub passes_typed : (type_all t size ≡ Ok tt) ↔ Typed t
     passes_typed = (λ e. subst (Says t size) e type_says, λ d. typed_passes d t.functions (omega arith))

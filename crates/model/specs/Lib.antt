@@ -1,4 +1,5 @@
 pub mod Tests
+pub mod Numbers
 pub mod Levels
 pub mod Packing
 pub mod Records

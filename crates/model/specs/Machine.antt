@@ -1,15 +1,16 @@
 -- Document 01, "The machine": one step, and a run over a list of directives.
-use Rattle.std.specs.Prelude.{ℕ, suc, ◌+◌, ◌-◌, ◌*◌, ◌%◌, Bool, true, false, not, ◌&&◌, ◌||◌, List, [], ◌∷◌, eqb, ltb, leb, get_or, set}
+use Rattle.std.specs.Prelude.{ℕ, suc, ◌+◌, ◌-◌, ◌*◌, ◌%◌, Bool, true, false, not, ◌&&◌, ◌||◌, List, [], ◌∷◌, eqb, ltb, leb, get_or, set, Option, Some, None, Result, Ok, Err}
 use Rattle.std.specs.Bool.{beq}
-use Rattle.std.proofs.Math.Option.{Option, none, some}
 use Rattle.std.specs.Int.Bits.{bit_and, bit_or, bit_xor}
 use Rattle.model.specs.Tests.{pick}
 use Rattle.model.specs.Memory.{offset_in}
 use Rattle.model.specs.Records.{simple_length}
 use Rattle.model.specs.Sites.{site}
 use Rattle.model.specs.Table.{Table, entry}
-use Rattle.model.specs.declared.Access.{Access}
-use Rattle.model.specs.declared.Access.TheVariants.{Word}
+use Rattle.model.specs.declared.Stop.{Stop}
+use Rattle.model.specs.declared.Stop.TheVariants.{ListEnded, Returned, WrongDirective, InitAstray, OutOfBounds, NoSuchPlace, NoRoom}
+use Rattle.model.specs.declared.Operation.{Operation}
+use Rattle.model.specs.declared.Operation.TheVariants.{Add, Sub, Mul, Xor, And, Or, Less, Equal}
 use Rattle.model.specs.declared.Directive.{Directive}
 use Rattle.model.specs.declared.Directive.TheVariants.{Plain, Branch, Stray, Back}
 use Rattle.model.specs.declared.Observation.{Observation}
@@ -65,65 +66,64 @@ abbrev pub holds : ℕ → Bool → Bool
 holds v s = beq (truth v) s
 
 -- ---- OPS 0..7, left first, on 32-bit words
-unfoldable pub operate : ℕ → ℕ → ℕ → ℕ
-operate op a b =
-    pick (eqb op 0) ((a + b) % 4294967296)
-    (pick (eqb op 1) ((a + (4294967296 - b)) % 4294967296)
-    (pick (eqb op 2) (a * b % 4294967296)
-    (pick (eqb op 3) (bit_xor a b)
-    (pick (eqb op 4) (bit_and a b)
-    (pick (eqb op 5) (bit_or a b)
-    (pick (eqb op 6) (pick (ltb a b) 1 0)
-    (pick (eqb a b) 1 0)))))))
+unfoldable pub operate : Operation → ℕ → ℕ → ℕ
+operate Add a b = (a + b) % 4294967296
+operate Sub a b = (a + (4294967296 - b)) % 4294967296
+operate Mul a b = a * b % 4294967296
+operate Xor a b = bit_xor a b
+operate And a b = bit_and a b
+operate Or a b = bit_or a b
+operate Less a b = pick (ltb a b) 1 0
+operate Equal a b = pick (eqb a b) 1 0
 
 -- ---- ONE STEP
 -- a record's work on the data: a stop, or new data and an observation
 pub data Work : Type 0 where
-  halt : ℕ → Work
+  halt : Stop → Work
   did : Data → Observation → Work
 
 pub data Stepped : Type 0 where
-  Stop : ℕ → Stepped
+  Stopped : Stop → Stepped
   Went : Ctl → Data → Observation → Stepped
 
 -- takes 60; any other directive is 22
 abbrev pub plain : Directive → Work → Work
 plain Plain w = w
-plain (Branch b) w = halt 22
-plain (Stray a i) w = halt 22
-plain (Back q) w = halt 22
+plain (Branch b) w = halt WrongDirective
+plain (Stray a i) w = halt WrongDirective
+plain (Back q) w = halt WrongDirective
 
 abbrev pub onward : Work → Ctl → Stepped
-onward (halt k) c = Stop k
+onward (halt k) c = Stopped k
 onward (did x o) c = Went c x o
 
-abbrev pub by_access : Access → (ℕ → ℕ → Work) → Work
-by_access (Word a i) f = f a i
-by_access (Access.Stop k) f = halt k
+abbrev pub by_access : Result (ℕ × ℕ) Stop → (ℕ → ℕ → Work) → Work
+by_access (Ok (a, i)) f = f a i
+by_access (Err k) f = halt k
 
 -- the stack without its top, if the top is q
 abbrev pub pop : List ℕ → ℕ → Option (List ℕ)
-pop [] q = none
-pop (p ∷ ps) q = pick (eqb p q) (some ps) none
+pop [] q = None
+pop (p ∷ ps) q = pick (eqb p q) (Some ps) None
 
 module _ (t : Table) where
   -- in range it takes 60
-  abbrev pub in_range : ℕ → ℕ → Directive → Access
-  in_range a i Plain = Word a i
-  in_range a i (Branch b) = Access.Stop 22
-  in_range a i (Stray b j) = Access.Stop 22
-  in_range a i (Back q) = Access.Stop 22
+  abbrev pub in_range : ℕ → ℕ → Directive → Result (ℕ × ℕ) Stop
+  in_range a i Plain = Ok (a, i)
+  in_range a i (Branch b) = Err WrongDirective
+  in_range a i (Stray b j) = Err WrongDirective
+  in_range a i (Back q) = Err WrongDirective
 
   -- out of range, misspeculating: the word that 62 names
-  abbrev pub strayed : Directive → Access
-  strayed Plain = Access.Stop 22
-  strayed (Branch b) = Access.Stop 22
-  strayed (Stray b j) = pick (ltb b t.arrays && ltb j (words_of t b)) (Word b j) (Access.Stop 25)
-  strayed (Back q) = Access.Stop 22
+  abbrev pub strayed : Directive → Result (ℕ × ℕ) Stop
+  strayed Plain = Err WrongDirective
+  strayed (Branch b) = Err WrongDirective
+  strayed (Stray b j) = pick (ltb b t.arrays && ltb j (words_of t b)) (Ok (b, j)) (Err NoSuchPlace)
+  strayed (Back q) = Err WrongDirective
 
   -- word i of array a is asked for; out of range on the right path is 24, before any directive is looked at
-  unfoldable pub access : ℕ → ℕ → Bool → Directive → Access
-  access a i mis dir = pick (ltb i (words_of t a)) (in_range a i dir) (pick mis (strayed dir) (Access.Stop 24))
+  unfoldable pub access : ℕ → ℕ → Bool → Directive → Result (ℕ × ℕ) Stop
+  access a i mis dir = pick (ltb i (words_of t a)) (in_range a i dir) (pick mis (strayed dir) (Err OutOfBounds))
 
   abbrev pub work : Simple → Directive → Bool → Data → Work
   work (Const d v) dir mis x = plain dir (did (wrote x d v) Nothing)
@@ -131,7 +131,7 @@ module _ (t : Table) where
   work (Select d c y n) dir mis x = plain dir (did (wrote x d (pick (truth (reg x c)) (reg x y) (reg x n))) Nothing)
   work (Load d a i) dir mis x = by_access (access a (reg x i) mis dir) (λ b j. did (wrote x d (word_at t x b j)) (Address a (reg x i)))
   work (Store a i s) dir mis x = by_access (access a (reg x i) mis dir) (λ b j. did (stored t x b j (reg x s)) (Address a (reg x i)))
-  work Init dir mis x = pick mis (halt 23) (plain dir (did (flagged x false) Nothing))
+  work Init dir mis x = pick mis (halt InitAstray) (plain dir (did (flagged x false) Nothing))
   work (Update r s) dir mis x = plain dir (did (flagged x (pick (holds (reg x r) s) x.masked true)) Nothing)
   work (Protect d s) dir mis x = plain dir (did (wrote x d (pick x.masked 4294967295 (reg x s))) Nothing)
   work (LoadFixed d a i) dir mis x = plain dir (did (wrote x d (word_at t x a i)) (Address a i))
@@ -143,25 +143,25 @@ module _ (t : Table) where
 
   -- IF and WHILE on the value v take 61: way 1 goes to p, way 0 to q
   abbrev pub fork : ℕ → ℕ → ℕ → Ctl → Directive → Data → Stepped
-  fork v p q c Plain x = Stop 22
+  fork v p q c Plain x = Stopped WrongDirective
   fork v p q c (Branch b) x = Went (record { place = pick b p q; stack = c.stack; mis = c.mis || not (holds v b) }) x (Way (truth v))
-  fork v p q c (Stray a i) x = Stop 22
-  fork v p q c (Back r) x = Stop 22
+  fork v p q c (Stray a i) x = Stopped WrongDirective
+  fork v p q c (Back r) x = Stopped WrongDirective
 
   -- a wrong return to q, which follows a CALL with the mark
   abbrev pub wrong : Option Bool → ℕ → Data → Stepped
-  wrong none q x = Stop 25
-  wrong (some m) q x = Went (record { place = q; stack = []; mis = true }) (flagged x (m || x.masked)) Nothing
+  wrong None q x = Stopped NoSuchPlace
+  wrong (Some m) q x = Went (record { place = q; stack = []; mis = true }) (flagged x (m || x.masked)) Nothing
 
   abbrev pub right : Option (List ℕ) → ℕ → Ctl → Data → Stepped
-  right none q c x = wrong (site t c.place q) q x
-  right (some ps) q c x = Went (record { place = q; stack = ps; mis = c.mis }) x Nothing
+  right None q c x = wrong (site t c.place q) q x
+  right (Some ps) q c x = Went (record { place = q; stack = ps; mis = c.mis }) x Nothing
 
   -- RETURN takes 63: the top of the stack first, then the places that follow a CALL of this function
   abbrev pub back : Ctl → Directive → Data → Stepped
-  back c Plain x = Stop 22
-  back c (Branch b) x = Stop 22
-  back c (Stray a i) x = Stop 22
+  back c Plain x = Stopped WrongDirective
+  back c (Branch b) x = Stopped WrongDirective
+  back c (Stray a i) x = Stopped WrongDirective
   back c (Back q) x = right (pop c.stack q) q c x
 
   abbrev pub step_of : Record → Ctl → Directive → Data → Stepped
@@ -185,15 +185,15 @@ size (Address a i) = 6
 
 -- stop, steps, where and with what it ended, observations
 pub data Final : Type 0 where
-  final : (stop steps : ℕ) → Ctl → Data → List Observation → Final
+  final : Stop → (steps : ℕ) → Ctl → Data → List Observation → Final
 
 abbrev pub observed : Observation → Final → Final
 observed o (final k n c x os) = final k (suc n) c x (o ∷ os)
 
 -- 26: no room for the observation. Nothing has changed then
 abbrev pub after_step : Stepped → ℕ → Ctl → Data → (ℕ → Ctl → Data → Final) → Final
-after_step (Stop k) room c x f = final k 0 c x []
-after_step (Went c' x' o) room c x f = pick (leb (size o) room) (observed o (f (room - size o) c' x')) (final 26 0 c x [])
+after_step (Stopped k) room c x f = final k 0 c x []
+after_step (Went c' x' o) room c x f = pick (leb (size o) room) (observed o (f (room - size o) c' x')) (final NoRoom 0 c x [])
 
 module _ (t : Table) where
   -- at the entry's RETURN
@@ -202,8 +202,8 @@ module _ (t : Table) where
 
   -- 21 first, then 20; each step uses one directive
   unfoldable pub run : List Directive → ℕ → Ctl → Data → Final
-  run [] room c x = pick (ended c) (final 21 0 c x []) (final 20 0 c x [])
-  run (d ∷ ds) room c x = pick (ended c) (final 21 0 c x []) (after_step (step t c d x) room c x (run ds))
+  run [] room c x = pick (ended c) (final Returned 0 c x []) (final ListEnded 0 c x [])
+  run (d ∷ ds) room c x = pick (ended c) (final Returned 0 c x []) (after_step (step t c d x) room c x (run ds))
 
   -- "A start has the entry's first place, empty stack, no, clear": the control part, and the flag is in the data
   abbrev pub start_ctl : Bool → Ctl

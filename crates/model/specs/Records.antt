@@ -89,7 +89,7 @@ by_single f g a Return = a
 -- fields in range, for n registers, m arrays (fault 4)
 abbrev pub SimpleFits : ℕ → ℕ → Simple → Type 0
 SimpleFits n m (Const d v) = d < n
-SimpleFits n m (Op d o l r) = (d < n) × (o < 8) × (l < n) × (r < n)
+SimpleFits n m (Op d o l r) = (d < n) × (l < n) × (r < n)
 SimpleFits n m (Select d c y k) = (d < n) × (c < n) × (y < n) × (k < n)
 SimpleFits n m (Load d a i) = (d < n) × (a < m) × (i < n)
 SimpleFits n m (Store a i s) = (a < m) × (i < n) × (s < n)

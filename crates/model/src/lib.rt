@@ -2,6 +2,72 @@
 // What they mean stands in specs/, in 01's order; the theorems over them in proofs/, and beside short definitions.
 #![tactic(auto)]
 
+ghost use Rattle.std.specs.Prelude.{◌≡◌};
+ghost use Rattle.model.specs.Numbers.{fault_number, stop_number, refusal};
+
+// What is at fault, in 01's order. As numbers: 1 to 16.
+#[derive(Clone, Copy, Debug, PartialEq, Eq)]
+pub enum Fault {
+    TooLong = 1,
+    CutShort = 2,
+    UnknownKind = 3,
+    OutOfRange = 4,
+    WrongPlace = 5,
+    TooDeep = 6,
+    NotLower = 7,
+    EntryStatus = 8,
+    BytesAfter = 9,
+    NotPublic = 10,
+    WrongStatus = 11,
+    NotWithinLoop = 12,
+    NotWithinIn = 13,
+    NotWithinOut = 14,
+    WrongLengths = 15,
+    BadList = 16,
+}
+
+impl Fault {
+    // The refusal for this fault at a place.
+    pub fn at(self, place: usize) -> Refusal
+        ensures { result ≡ refusal self place }
+    {
+        Refusal { fault: self, place }
+    }
+
+    pub fn number(self) -> u8
+        ensures { result ≡ fault_number self }
+    {
+        self as u8
+    }
+}
+
+// A fault, and its place.
+#[derive(Clone, Copy, Debug, PartialEq, Eq)]
+pub struct Refusal {
+    pub fault: Fault,
+    pub place: usize,
+}
+
+// Why a run ends. As numbers: 20 to 26.
+#[derive(Clone, Copy, Debug, PartialEq, Eq)]
+pub enum Stop {
+    ListEnded = 20,
+    Returned = 21,
+    WrongDirective = 22,
+    InitAstray = 23,
+    OutOfBounds = 24,
+    NoSuchPlace = 25,
+    NoRoom = 26,
+}
+
+impl Stop {
+    pub fn number(self) -> u8
+        ensures { result ≡ stop_number self }
+    {
+        self as u8
+    }
+}
+
 // The numbers of the sizes record.
 #[derive(Clone, Copy)]
 pub struct Sizes {
@@ -11,7 +77,7 @@ pub struct Sizes {
 }
 
 // The flag status. Outdated(r, true) is 01's outdated(r, 1), "r is not zero".
-#[derive(Clone, Copy)]
+#[derive(Clone, Copy, PartialEq, Eq)]
 pub enum Status {
     Unknown,
     Updated,
@@ -26,6 +92,19 @@ pub struct Packed {
     pub arrays: u32,
 }
 
+// What OP does, by its numbers 0 to 7.
+#[derive(Clone, Copy, Debug, PartialEq, Eq)]
+pub enum Operation {
+    Add,
+    Sub,
+    Mul,
+    Xor,
+    And,
+    Or,
+    Less,
+    Equal,
+}
+
 // A record that goes on to the next one and touches registers, memory and flag alone.
 #[derive(Clone, Copy)]
 pub enum Simple {
@@ -35,7 +114,7 @@ pub enum Simple {
     },
     Op {
         dest: u8,
-        op: u8,
+        op: Operation,
         left: u8,
         right: u8,
     },
@@ -103,20 +182,12 @@ pub enum Record {
     Return,
 }
 
-// How far a walk over the records of a block came: past one record, or one block with its ends; to the record that
-// closes the block; or to a fault.
+// How far a walk over the records of a block came: past one record, or one block with its ends; or to the record that
+// closes the block.
 #[derive(Clone, Copy)]
 pub enum Walked {
     Next(usize),
     Shut(usize),
-    Fault(u8, usize),
-}
-
-// What the typing of a table answers: every function types, or the first fault.
-#[derive(Clone, Copy)]
-pub enum Typing {
-    Passes,
-    Fault(u8, usize),
 }
 
 // A directive: what the machine's surroundings choose for one step.
@@ -134,18 +205,4 @@ pub enum Observation {
     Nothing,
     Way(bool),
     Address(u8, u32),
-}
-
-// The word that a LOAD or a STORE touches, by array and index; or the stop instead.
-#[derive(Clone, Copy)]
-pub enum Access {
-    Word(u8, usize),
-    Stop(u8),
-}
-
-// How a block ends: at the place of the record that closes it, or with a fault.
-#[derive(Clone, Copy)]
-pub enum Ended {
-    Shut(usize),
-    Fault(u8, usize),
 }

@@ -1,5 +1,5 @@
 -- Each record's work on two data states that an environment allows side by side (specs/theory/Alike).
-use Rattle.std.specs.Prelude.{ℕ, ◌≤◌, ◌<◌, max, ◌≡◌, Bool, true, false, ◌&&◌, List, length, set, T, eqb, ltb}
+use Rattle.std.specs.Prelude.{ℕ, ◌≤◌, ◌<◌, max, ◌≡◌, Bool, true, false, ◌&&◌, List, length, set, T, ltb, Result, Ok, Err}
 use Rattle.std.proofs.Common.{zero-le, arith, le_refl, le_trans, sym, ◌∙◌, subst, true≢false, length-set, get_or-set_other, ltb→lt, lt→ltb, not-suc-le-zero}
 use Rattle.std.proofs.Math.Path.{refl}
 use Rattle.std.proofs.Math.ListN.{get_or-eq_default}
@@ -9,10 +9,11 @@ use Rattle.model.specs.Memory.{set_alike, disjoint}
 use Rattle.model.specs.Levels.{Env, Covers, Within}
 use Rattle.model.specs.Records.{SimpleReaches}
 use Rattle.model.specs.Table.{Table}
+use Rattle.model.specs.declared.Stop.TheVariants.{OutOfBounds, NoSuchPlace}
 use Rattle.model.specs.declared.Status.{Status}
 use Rattle.model.specs.declared.Status.TheVariants.{Unknown, Updated, Outdated}
-use Rattle.model.specs.declared.Access.{Access}
-use Rattle.model.specs.declared.Access.TheVariants.{Word}
+use Rattle.model.specs.declared.Operation.{Operation}
+use Rattle.model.specs.declared.Stop.{Stop}
 use Rattle.model.specs.declared.Directive.{Directive}
 use Rattle.model.specs.declared.Directive.TheVariants.{Plain, Branch, Stray, Back}
 use Rattle.model.specs.declared.Observation.TheVariants.{Nothing, Address}
@@ -135,34 +136,34 @@ beside_source m l b v k = test (ltb b m) (λ x. pick x (max v (spilled l)) v ≤
 
 -- ---- the records
 module _ (t : Table) where
-  -- an access touches a word in range; on the right path, of the array asked for. A stop is not 0
-  abbrev pub Touches : ℕ → Bool → Access → Type 0
-  Touches a mis (Word b j) = (mis ≡ false → b ≡ a) × (j < words_of t b)
-  Touches a mis (Access.Stop k) = eqb k 0 ≡ false
+  -- an access touches a word in range; on the right path, of the array asked for
+  abbrev pub Touches : ℕ → Bool → Result (ℕ × ℕ) Stop → Type 0
+  Touches a mis (Ok (b, j)) = (mis ≡ false → b ≡ a) × (j < words_of t b)
+  Touches a mis (Err k) = Unit {0}
 
   pub access_touches : (a i : ℕ) (mis : Bool) (dir : Directive) → Touches a mis (access t a i mis dir)
   unfolding access
-  access_touches a i mis dir = test (ltb i (words_of t a)) (λ b. Touches a mis (pick b (in_range t a i dir) (pick mis (strayed t dir) (Access.Stop 24)))) (λ e. near dir (ltb→lt i (words_of t a) (rw e tt))) (λ _. far mis dir)
+  access_touches a i mis dir = test (ltb i (words_of t a)) (λ b. Touches a mis (pick b (in_range t a i dir) (pick mis (strayed t dir) (Err OutOfBounds)))) (λ e. near dir (ltb→lt i (words_of t a) (rw e tt))) (λ _. far mis dir)
     where
       near : (dir : Directive) → i < words_of t a → Touches a mis (in_range t a i dir)
       near Plain l = (λ _. refl, l)
-      near (Branch b) l = refl
-      near (Stray b j) l = refl
-      near (Back q) l = refl
+      near (Branch b) l = tt
+      near (Stray b j) l = tt
+      near (Back q) l = tt
 
-      far : (mis : Bool) (dir : Directive) → Touches a mis (pick mis (strayed t dir) (Access.Stop 24))
-      far false dir = refl
-      far true Plain = refl
-      far true (Branch b) = refl
-      far true (Stray b j) = test (ltb b t.arrays) (λ z. Touches a true (pick (z && ltb j (words_of t b)) (Word b j) (Access.Stop 25)))
-          (λ _. test (ltb j (words_of t b)) (λ z. Touches a true (pick z (Word b j) (Access.Stop 25))) (λ e. (λ q. absurd (true≢false q), ltb→lt j (words_of t b) (rw e tt))) (λ _. refl)) (λ _. refl)
-      far true (Back q) = refl
+      far : (mis : Bool) (dir : Directive) → Touches a mis (pick mis (strayed t dir) (Err OutOfBounds))
+      far false dir = tt
+      far true Plain = tt
+      far true (Branch b) = tt
+      far true (Stray b j) = test (ltb b t.arrays) (λ z. Touches a true (pick (z && ltb j (words_of t b)) (Ok (b, j)) (Err NoSuchPlace)))
+          (λ _. test (ltb j (words_of t b)) (λ z. Touches a true (pick z (Ok (b, j)) (Err NoSuchPlace))) (λ e. (λ q. absurd (true≢false q), ltb→lt j (words_of t b) (rw e tt))) (λ _. tt)) (λ _. tt)
+      far true (Back q) = tt
 
   module _ (E : Env) (mis : Bool) (x y : Data) (h : Alike t E mis x y) (dir : Directive) where
     const_works : (d v : ℕ) → Works t (after t.arrays (Const d v) E) mis (work t (Const d v) dir mis x) (work t (Const d v) dir mis y)
     const_works d v = write_works t E mis x y h dir d 0 v v (λ _. refl)
 
-    op_works : (d o l r : ℕ) → Works t (after t.arrays (Op d o l r) E) mis (work t (Op d o l r) dir mis x) (work t (Op d o l r) dir mis y)
+    op_works : (d : ℕ) (o : Operation) (l r : ℕ) → Works t (after t.arrays (Op d o l r) E) mis (work t (Op d o l r) dir mis x) (work t (Op d o l r) dir mis y)
     op_works d o l r = write_works t E mis x y h dir d _ _ _ (λ q. rw (h.regs l (omega arith), h.regs r (omega arith)))
 
     select_works : (d c u v : ℕ) → Works t (after t.arrays (Select d c u v) E) mis (work t (Select d c u v) dir mis x) (work t (Select d c u v) dir mis y)
@@ -178,10 +179,10 @@ module _ (t : Table) where
             no_way l = omega arith
         value b j false e f k l = h.mem b j k (rw (← e, f refl) (omega arith))
 
-        go : (z : Access) → Touches a mis z → Works t (after t.arrays (Load d a i) E) mis
+        go : (z : Result (ℕ × ℕ) Stop) → Touches a mis z → Works t (after t.arrays (Load d a i) E) mis
             (by_access z (λ b j. did (wrote x d (word_at t x b j)) (Address a (reg y i)))) (by_access z (λ b j. did (wrote y d (word_at t y b j)) (Address a (reg y i))))
-        go (Word b j) f = (refl, wrote_alike t E mis x y h d _ _ _ (value b j mis refl f.0 f.1))
-        go (Access.Stop k) f = refl
+        go (Ok (b, j)) f = (refl, wrote_alike t E mis x y h d _ _ _ (value b j mis refl f.0 f.1))
+        go (Err k) f = refl
 
     store_works : (a i s : ℕ) → E.regs i ≡ 0 → Works t (after t.arrays (Store a i s) E) mis (work t (Store a i s) dir mis x) (work t (Store a i s) dir mis y)
     store_works a i s e = rw (public t E mis x y h i e) (go (access t a (reg y i) mis dir) (access_touches a (reg y i) mis dir))
@@ -194,10 +195,10 @@ module _ (t : Table) where
         source b true e f k = same b a (λ z. pick z (max (E.arrays a) (E.regs s)) (beside t.arrays (E.regs s) b (E.arrays b)) ≤ 0 → E.regs s ≤ 0) (λ _ l. omega arith) (λ _. beside_source t.arrays (E.regs s) b (E.arrays b) k)
         source b false e f k = same b a (λ z. pick z (max (E.arrays a) (E.regs s)) (beside t.arrays (E.regs s) b (E.arrays b)) ≤ 1 → E.regs s ≤ 1) (λ _ l. omega arith) (λ n l. absurd (n (f refl)))
 
-        go : (z : Access) → Touches a mis z → Works t (after t.arrays (Store a i s) E) mis
+        go : (z : Result (ℕ × ℕ) Stop) → Touches a mis z → Works t (after t.arrays (Store a i s) E) mis
             (by_access z (λ b j. did (stored t x b j (reg x s)) (Address a (reg y i)))) (by_access z (λ b j. did (stored t y b j (reg y s)) (Address a (reg y i))))
-        go (Word b j) f = (refl, stored_alike t E mis x y h others a (E.regs s) s b j (λ c. beside_kept t.arrays (E.regs s) c (E.arrays c)) f.1 (source b mis refl f.0 (in_words t b j f.1)))
-        go (Access.Stop k) f = refl
+        go (Ok (b, j)) f = (refl, stored_alike t E mis x y h others a (E.regs s) s b j (λ c. beside_kept t.arrays (E.regs s) c (E.arrays c)) f.1 (source b mis refl f.0 (in_words t b j f.1)))
+        go (Err k) f = refl
 
     update_works : (r : ℕ) (s : Bool) → E.status ≡ Outdated r s → Works t (after t.arrays (Update r s) E) mis (work t (Update r s) dir mis x) (work t (Update r s) dir mis y)
     update_works r s e = plain_works t _ mis dir _ _ (

@@ -7,6 +7,7 @@ use Rattle.model.specs.Table.{Table}
 use Rattle.model.specs.Records.{Reaches}
 use Rattle.model.specs.Rules.{kill, after}
 use Rattle.model.specs.Machine.{Data, reg, words_of, word_at, wrote, stored, halt, did, access, work}
+use Rattle.model.specs.declared.Stop.TheVariants.{WrongDirective}
 use Rattle.model.specs.declared.Status.TheVariants.{Unknown, Outdated}
 use Rattle.model.specs.declared.Directive.{Directive}
 use Rattle.model.specs.declared.Directive.TheVariants.{Plain, Branch, Stray, Back}
@@ -48,13 +49,13 @@ module _ (t : Table) where
   store_fixed_lies p a i s e = subst (Reaches t.words) e (t.reaches p)
 
   -- and any directive but 60 is the wrong kind, 62 too, whatever word it names
-  pub load_fixed_else : (d a i : ℕ) (dir : Directive) (mis : Bool) (x : Data) → (dir ≡ Plain → ⊥) → work t (LoadFixed d a i) dir mis x ≡ halt 22
+  pub load_fixed_else : (d a i : ℕ) (dir : Directive) (mis : Bool) (x : Data) → (dir ≡ Plain → ⊥) → work t (LoadFixed d a i) dir mis x ≡ halt WrongDirective
   load_fixed_else d a i Plain mis x n = absurd (n refl)
   load_fixed_else d a i (Branch b) mis x n = refl
   load_fixed_else d a i (Stray b j) mis x n = refl
   load_fixed_else d a i (Back q) mis x n = refl
 
-  pub store_fixed_else : (a i s : ℕ) (dir : Directive) (mis : Bool) (x : Data) → (dir ≡ Plain → ⊥) → work t (StoreFixed a i s) dir mis x ≡ halt 22
+  pub store_fixed_else : (a i s : ℕ) (dir : Directive) (mis : Bool) (x : Data) → (dir ≡ Plain → ⊥) → work t (StoreFixed a i s) dir mis x ≡ halt WrongDirective
   store_fixed_else a i s Plain mis x n = absurd (n refl)
   store_fixed_else a i s (Branch b) mis x n = refl
   store_fixed_else a i s (Stray b j) mis x n = refl

@@ -2,8 +2,7 @@
 -- its CALLs.
 use Prim.Native.Nat.{ℕ, zero, suc, ◌+◌, ◌-◌, ◌<◌, ◌≤◌}
 use Rattle.std.proofs.Common.{arith, sym, ap, subst, ◌∙◌, inl, inr, true≢false, le-leb}
-use Rattle.std.specs.Prelude.{◌≡◌, refl, ◌⊎◌, Bool, leb}
-use Rattle.std.proofs.Math.Option.{some}
+use Rattle.std.specs.Prelude.{◌≡◌, refl, ◌⊎◌, Bool, leb, Some}
 use Rattle.std.proofs.lemmas.Bool.{lt-leb}
 use Rattle.std.proofs.Math.Decide.{ℕ_discrete, dec_lt}
 use Rattle.model.specs.Tests.{pick, same}
@@ -129,14 +128,14 @@ module _ (t : Table) where
         go (no q) ih = rw (lt-leb (t.start n) (t.ret f) (ret_below n f (omega arith) (omega arith))) (ih (omega arith))
 
     -- where a function's RETURN may go back to, that follows one of its CALLs
-    pub site_called : (f q : ℕ) (m : Bool) → f < t.functions → site t (t.ret f) q ≡ some m → Called t f q m
+    pub site_called : (f q : ℕ) (m : Bool) → f < t.functions → site t (t.ret f) q ≡ Some m → Called t f q m
     unfolding site
     site_called f q m l e =
-        let (c, h, u) = mark_listed (code t) f q m (subst (λ (g : ℕ). mark_in (code t) g q ≡ some m) (home_own t.functions f l (omega arith)) e) in
+        let (c, h, u) = mark_listed (code t) f q m (subst (λ (g : ℕ). mark_in (code t) g q ≡ Some m) (home_own t.functions f l (omega arith)) e) in
         rw u (call_met c f m (omega arith) h)
 
     -- and it may go back to each place that follows one, by that CALL's mark
-    pub called_site : (f q : ℕ) (m : Bool) → f < t.functions → Called t f q m → site t (t.ret f) q ≡ some m
+    pub called_site : (f q : ℕ) (m : Bool) → f < t.functions → Called t f q m → site t (t.ret f) q ≡ Some m
     unfolding site
     called_site f q m l s =
         let h = met_listed s.call (s.caller, s.function, s.met, omega (arith, s.inside)) in

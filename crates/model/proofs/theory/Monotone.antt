@@ -72,7 +72,7 @@ module _ (n m : ℕ) (E F : Env) (w : Within n m E F) where
 
   pub after_mono : (i : Simple) → SimpleFits n m i → Within n m (after m i E) (after m i F)
   after_mono (Const d v) f = written_mono d 0 0 (le_refl 0)
-  after_mono (Op d o l r) f = written_mono d _ _ (omega (arith, w.regs l f.2, w.regs r f.3))
+  after_mono (Op d o l r) f = written_mono d _ _ (omega (arith, w.regs l f.1, w.regs r f.2))
   after_mono (Select d c y k) f = written_mono d _ _ (omega (arith, w.regs c f.1, w.regs y f.2, w.regs k f.3))
   after_mono (Load d a i) f = written_mono d _ _ (omega (arith, w.arrays a f.1))
   after_mono (Store a i s) f = raised_mono _ _ a _ _ f.0 (λ b l. beside_mono m (E.regs s) (F.regs s) b (E.arrays b) (F.arrays b) (w.regs s f.2) (w.arrays b l)) (omega (arith, w.regs s f.2))

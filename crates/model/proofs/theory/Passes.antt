@@ -15,6 +15,8 @@ use Rattle.model.specs.InOrder.{chain_le}
 use Rattle.model.specs.theory.Places.{nesting}
 use Rattle.model.proofs.theory.Places.{spans}
 use Rattle.model.specs.Walk.{Onward, Halt, Ending, Reached, Failed, on_next, on_shut, Tests, Right, if_with, while_with, instr_with, type_block, type_instr, inside, type_function, shut_at, single_at, instr_at_lem}
+use Rattle.model.specs.declared.Fault.{Fault}
+use Rattle.model.specs.declared.Fault.TheVariants.{NotWithinLoop, NotWithinOut}
 use Rattle.model.specs.declared.Packed.{Packed}
 use Rattle.model.specs.declared.Record.{Record}
 use Rattle.model.specs.declared.Record.TheVariants.{Do, Call, If, Else, Endif, While, Endwhile, Return}
@@ -73,15 +75,15 @@ module _ (t : Table) (R : Rules) (D : Tests R) (g size : ℕ) (ok : Right R D g)
   abbrev pub Block : ℕ → R.Env → ℕ → R.Env → Type 0
   Block p E q F = Types t R g p E q F
 
-  abbrev pub Faulty : ℕ → R.Env → ℕ → ℕ → Type 0
-  Faulty p E n k = Faults t R D.number g p E n k
+  abbrev pub Faulty : ℕ → R.Env → Fault → ℕ → Type 0
+  Faulty p E n k = Faults t R D.fault g p E n k
 
   -- ---- what an answer says of the block from p to q
   abbrev Says : ℕ → R.Env → ℕ → Ending R.Env → Type 0
   Says p E q (Reached n F) = (n ≡ q) × Block p E q F
   Says p E q (Failed n k) = Faulty p E n k
 
-  says_map : (p p' q : ℕ) (E E' : R.Env) (w : Ending R.Env) → ((F : R.Env) → Block p' E' q F → Block p E q F) → ((n k : ℕ) → Faulty p' E' n k → Faulty p E n k) → Says p' E' q w → Says p E q w
+  says_map : (p p' q : ℕ) (E E' : R.Env) (w : Ending R.Env) → ((F : R.Env) → Block p' E' q F → Block p E q F) → ((n : Fault) (k : ℕ) → Faulty p' E' n k → Faulty p E n k) → Says p' E' q w → Says p E q w
   says_map p p' q E E' (Reached n F) f h (e, s) = (e, f F s)
   says_map p p' q E E' (Failed n k) f h s = h n k s
 
@@ -137,7 +139,7 @@ module _ (t : Table) (R : Rules) (D : Tests R) (g size : ℕ) (ok : Right R D g)
       L = R.loop L₀
 
       body : (d k : ℕ) (E : R.Env) → max (suc x) z ≤ d → q < suc k + p → R.Within E L → R.Public L r → (w : Ending R.Env) → Says (p + 11) (R.guarded L r true) e w
-          → Says p E q (on_next (on_shut Halt w λ e E₁. pick (D.within E₁ L) (Onward (e + 3) (R.guarded L r false)) (Halt 12 e)) (walk d k))
+          → Says p E q (on_next (on_shut Halt w λ e E₁. pick (D.within E₁ L) (Onward (e + 3) (R.guarded L r false)) (Halt NotWithinLoop e)) (walk d k))
       body d k E u v a o (Failed m c) h = while_body i a o h
       body d k E u v a o (Reached m E₁) (s, b) = rw s (pick_ind (λ w. Says p E q (on_next w (walk d k))) (D.within E₁ L)
           (λ c. let f = (ok.within E₁ L).0 c in says_map p (e + 3) q E (R.guarded L r false) (walk d k (e + 3) (R.guarded L r false))
@@ -228,14 +230,14 @@ module _ (t : Table) (R : Rules) (D : Tests R) (g size : ℕ) (ok : Right R D g)
   -- ---- a function that has been read, nested at most 16 deep
   abbrev pub Verdict : Ending R.Env → Type 0
   Verdict (Reached p E) = TypesFunction t R g
-  Verdict (Failed n k) = FaultsFunction t R D.number g n k
+  Verdict (Failed n k) = FaultsFunction t R D.fault g n k
 
   -- what the walk answers holds
   pub verdict : (s : TypesFunction t reading g) → nesting t reading s.body ≤ 16 → t.ret g < size → Verdict (type_function t R D size g)
   unfolding type_function
   verdict s n l = go (walk 16 size (t.start g) (R.enter g)) (says_right s.body (rw s.returns tt) l 16 size (R.enter g) n (omega arith))
     where
-      go : (w : Ending R.Env) → Says (t.start g) (R.enter g) (t.ret g) w → Verdict (on_shut Failed w λ p E. pick (D.within E (R.leave g)) (Reached p E) (Failed 14 p))
+      go : (w : Ending R.Env) → Says (t.start g) (R.enter g) (t.ret g) w → Verdict (on_shut Failed w λ p E. pick (D.within E (R.leave g)) (Reached p E) (Failed NotWithinOut p))
       go (Failed m p) h = on_the_way h
       go (Reached p E) (e, h) = pick_ind Verdict (D.within E (R.leave g))
           (λ b. record { last = E; body = h; returns = s.returns; fits = (ok.within E (R.leave g)).0 b })

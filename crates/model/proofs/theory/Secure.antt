@@ -1,15 +1,15 @@
 -- Two runs from related states make the same steps, observe the same and stop alike.
-use Rattle.std.specs.Prelude.{ℕ, suc, ◌+◌, ◌-◌, ◌≤◌, ◌≡◌, Bool, true, false, not, ◌||◌, leb}
+use Rattle.std.specs.Prelude.{ℕ, suc, ◌+◌, ◌-◌, ◌≤◌, ◌≡◌, Bool, true, false, not, ◌||◌, leb, Option, None, Some}
 use Rattle.std.proofs.Common.{zero-le, arith, le_refl, le_trans, ap, subst, true≢false}
 use Rattle.std.proofs.Math.Path.{refl}
 use Rattle.std.proofs.lemmas.Bool.{false≢true}
 use mathlib.Core.List.{List, [], ◌∷◌}
-use Rattle.std.proofs.Math.Option.{Option, none, some}
 use Rattle.model.specs.Tests.{pick, test, same}
 use Rattle.model.specs.Levels.{Env, Covers, Within}
 use Rattle.model.specs.Records.{simple_length, SimpleReaches, Reaches}
 use Rattle.model.specs.Sites.{site}
 use Rattle.model.specs.Table.{Table}
+use Rattle.model.specs.declared.Stop.TheVariants.{ListEnded, Returned, NoRoom}
 use Rattle.model.specs.declared.Status.{Status}
 use Rattle.model.specs.declared.Status.TheVariants.{Unknown, Updated, Outdated}
 use Rattle.model.specs.declared.Directive.{Directive}
@@ -20,7 +20,7 @@ use Rattle.model.specs.declared.Simple.{Simple}
 use Rattle.model.specs.declared.Record.{Record}
 use Rattle.model.specs.declared.Record.TheVariants.{Do, Call, If, Else, Endif, While, Endwhile, Return}
 use Rattle.model.specs.Rules.{Needs, guard_status, call_status, guarded, after, after_of, typing}
-use Rattle.model.specs.Machine.{Ctl, Data, Work, halt, did, Stepped, Stop, Went, reg, holds, flagged, plain, onward, to, pop, work, fork, wrong, right, back, step_of, step, size, Final, final, observed, after_step, ended, run}
+use Rattle.model.specs.Machine.{Ctl, Data, Work, halt, did, Stepped, Stopped, Went, reg, holds, flagged, plain, onward, to, pop, work, fork, wrong, right, back, step_of, step, size, Final, final, observed, after_step, ended, run}
 use Rattle.model.specs.theory.Alike.{top, Flag, Alike}
 use Rattle.model.proofs.theory.Alike.{Works, weaken, public, simple_works}
 use Rattle.model.specs.theory.Flow.{To, Site, Flow, Flows, Frames}
@@ -95,9 +95,9 @@ module _ (t : Table) (at : ℕ → ℕ → Env → Type 0) where
     pub alike : Alike t env c.mis x y
 
   abbrev pub SameStep : Stepped → Stepped → Type 0
-  SameStep (Stop j) (Stop k) = j ≡ k
-  SameStep (Stop j) (Went d y p) = ⊥
-  SameStep (Went c x o) (Stop k) = ⊥
+  SameStep (Stopped j) (Stopped k) = j ≡ k
+  SameStep (Stopped j) (Went d y p) = ⊥
+  SameStep (Went c x o) (Stopped k) = ⊥
   SameStep (Went c x o) (Went d y p) = (c ≡ d) × (o ≡ p) × Related c x y
 
   abbrev pub SameEnd : Final → Final → Type 0
@@ -138,7 +138,7 @@ module _ (t : Table) (at : ℕ → ℕ → Env → Type 0) where
       fork_same r p q (Branch true) e u v = rw (public t E c.mis x y h r e) (refl, refl, arrive f (guarded E r true) _ x y u fs (fork_alike t E c.mis x y h r true e))
       fork_same r p q (Branch false) e u v = rw (public t E c.mis x y h r e) (refl, refl, arrive f (guarded E r false) _ x y v fs (fork_alike t E c.mis x y h r false e))
 
-      back_same : (dir : Directive) → Within t.registers t.arrays E (t.leave f) → ((q : ℕ) (m : Bool) → site t c.place q ≡ some m → Site t (typing t) at f q m) → SameStep (back t c dir x) (back t c dir y)
+      back_same : (dir : Directive) → Within t.registers t.arrays E (t.leave f) → ((q : ℕ) (m : Bool) → site t c.place q ≡ Some m → Site t (typing t) at f q m) → SameStep (back t c dir x) (back t c dir y)
       back_same Plain w sites = refl
       back_same (Branch b) w sites = refl
       back_same (Stray a i) w sites = refl
@@ -148,14 +148,14 @@ module _ (t : Table) (at : ℕ → ℕ → Env → Type 0) where
           left = weaken t E (t.leave f) c.mis x y w h
 
           lost : (o : Option Bool) → site t c.place q ≡ o → SameStep (wrong t o q x) (wrong t o q y)
-          lost none e = refl
-          lost (some m) e =
+          lost None e = refl
+          lost (Some m) e =
               let s : Site t (typing t) at f q m = sites q m e in
               (refl, refl, arrive s.caller (after_of t (Call f m) s.env) _ _ _ (site_to f q m s) tt (wrong_alike t f m c.mis s.env x y left))
 
           by : (st : List ℕ) → Frames t (typing t) at f st → SameStep (right t (pop st q) q c x) (right t (pop st q) q c y)
           by [] g = lost (site t c.place q) refl
-          by (p ∷ ps) (m, s, g) = same p q (λ b. SameStep (right t (pick b (some ps) none) q c x) (right t (pick b (some ps) none) q c y))
+          by (p ∷ ps) (m, s, g) = same p q (λ b. SameStep (right t (pick b (Some ps) None) q c x) (right t (pick b (Some ps) None) q c y))
               (λ e. (refl, refl, arrive s.caller (after_of t (Call f m) s.env) _ x y (rw (← e) (site_to f p m s)) g (weaken t (t.leave f) _ c.mis x y (leave_within t f m s.env) left)))
               (λ _. lost (site t c.place q) refl)
 
@@ -181,21 +181,21 @@ module _ (t : Table) (at : ℕ → ℕ → Env → Type 0) where
     after_same : (room : ℕ) (c : Ctl) (x y : Data) → Related c x y → (f : ℕ → Ctl → Data → Final)
         → ((k : ℕ) (d : Ctl) (u v : Data) → Related d u v → SameEnd (f k d u) (f k d v))
         → (w v : Stepped) → SameStep w v → SameEnd (after_step w room c x f) (after_step v room c y f)
-    after_same room c x y r f ih (Stop j) (Stop k) e = (e, refl, refl, refl, r)
-    after_same room c x y r f ih (Stop j) (Went d v p) e = absurd e
-    after_same room c x y r f ih (Went d u o) (Stop k) e = absurd e
+    after_same room c x y r f ih (Stopped j) (Stopped k) e = (e, refl, refl, refl, r)
+    after_same room c x y r f ih (Stopped j) (Went d v p) e = absurd e
+    after_same room c x y r f ih (Went d u o) (Stopped k) e = absurd e
     after_same room c x y r f ih (Went d u o) (Went d' v o') (e, g, s) =
         subst (λ (z : Ctl). SameEnd (after_step (Went d u o) room c x f) (after_step (Went z v o') room c y f)) e
         (subst (λ (z : Observation). SameEnd (after_step (Went d u o) room c x f) (after_step (Went d v z) room c y f)) g
-        (test (leb (size o) room) (λ b. SameEnd (pick b (observed o (f (room - size o) d u)) (final 26 0 c x [])) (pick b (observed o (f (room - size o) d v)) (final 26 0 c y [])))
+        (test (leb (size o) room) (λ b. SameEnd (pick b (observed o (f (room - size o) d u)) (final NoRoom 0 c x [])) (pick b (observed o (f (room - size o) d v)) (final NoRoom 0 c y [])))
         (λ _. observed_same o (f (room - size o) d u) (f (room - size o) d v) (ih (room - size o) d u v s))
         (λ _. (refl, refl, refl, refl, r))))
 
     -- demand 3, from any two related states
     pub run_same : (ds : List Directive) (room : ℕ) (c : Ctl) (x y : Data) → Related c x y → SameEnd (run t ds room c x) (run t ds room c y)
     unfolding run
-    run_same [] room c x y r = test (ended t c) (λ b. SameEnd (pick b (final 21 0 c x []) (final 20 0 c x [])) (pick b (final 21 0 c y []) (final 20 0 c y []))) (λ _. (refl, refl, refl, refl, r)) (λ _. (refl, refl, refl, refl, r))
+    run_same [] room c x y r = test (ended t c) (λ b. SameEnd (pick b (final Returned 0 c x []) (final ListEnded 0 c x [])) (pick b (final Returned 0 c y []) (final ListEnded 0 c y []))) (λ _. (refl, refl, refl, refl, r)) (λ _. (refl, refl, refl, refl, r))
     run_same (d ∷ ds) room c x y r =
-        test (ended t c) (λ b. SameEnd (pick b (final 21 0 c x []) (after_step (step t c d x) room c x (run t ds))) (pick b (final 21 0 c y []) (after_step (step t c d y) room c y (run t ds))))
+        test (ended t c) (λ b. SameEnd (pick b (final Returned 0 c x []) (after_step (step t c d x) room c x (run t ds))) (pick b (final Returned 0 c y []) (after_step (step t c d y) room c y (run t ds))))
         (λ _. (refl, refl, refl, refl, r))
         (λ _. after_same room c x y r (run t ds) (run_same ds) (step t c d x) (step t c d y) (step_same c x y r d))

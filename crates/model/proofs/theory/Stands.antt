@@ -1,13 +1,13 @@
 -- Where a run can stand, typed or not: at a record of the code, with a stack of places that follow calls, no deeper
 -- than the functions.
-use Rattle.std.specs.Prelude.{ℕ, ◌+◌, ◌-◌, ◌<◌, ◌≡◌, Bool, true, false, length, leb}
+use Rattle.std.specs.Prelude.{ℕ, ◌+◌, ◌-◌, ◌<◌, ◌≡◌, Bool, true, false, length, leb, Option, None, Some}
 use Rattle.std.proofs.Common.{arith, subst}
 use Rattle.std.proofs.Math.Path.{refl}
 use mathlib.Core.List.{List, [], ◌∷◌}
-use Rattle.std.proofs.Math.Option.{Option, none, some}
 use Rattle.model.specs.Tests.{pick, test, same}
 use Rattle.model.specs.Sites.{site}
 use Rattle.model.specs.Table.{Table}
+use Rattle.model.specs.declared.Stop.TheVariants.{ListEnded, Returned, NoRoom}
 use Rattle.model.specs.declared.Record.{Record}
 use Rattle.model.specs.declared.Record.TheVariants.{Do, Call, If, Else, Endif, While, Endwhile, Return}
 use Rattle.model.specs.declared.Directive.{Directive}
@@ -15,7 +15,7 @@ use Rattle.model.specs.declared.Directive.TheVariants.{Plain, Branch, Stray, Bac
 use Rattle.model.specs.declared.Observation.{Observation}
 use Rattle.model.specs.declared.Observation.TheVariants.{Nothing}
 use Rattle.model.specs.Rules.{reading}
-use Rattle.model.specs.Machine.{Ctl, Data, Work, halt, did, Stepped, Stop, Went, reg, onward, to, pop, work, plain, fork, wrong, right, back, step_of, step, size, Final, final, observed, after_step, ended, run}
+use Rattle.model.specs.Machine.{Ctl, Data, Work, halt, did, Stepped, Stopped, Went, reg, onward, to, pop, work, plain, fork, wrong, right, back, step_of, step, size, Final, final, observed, after_step, ended, run}
 use Rattle.model.specs.theory.Flow.{Site, Flow, Frames}
 use Rattle.model.proofs.Rules.{reading_laws}
 use Rattle.model.specs.theory.Code.{Known}
@@ -24,7 +24,7 @@ use Rattle.model.specs.theory.Stands.{Place, On, Stands, EndStands}
 
 module _ (t : Table) (reads : Known t) where
   abbrev StepStands : Stepped → Type 0
-  StepStands (Stop k) = Unit {0}
+  StepStands (Stopped k) = Unit {0}
   StepStands (Went c x o) = Stands t reads c
 
   onward_stands : (w : Work) (c : Ctl) → Stands t reads c → StepStands (onward w c)
@@ -45,19 +45,19 @@ module _ (t : Table) (reads : Known t) where
     fork_stands v p q (Stray i j) x a b = tt
     fork_stands v p q (Back k) x a b = tt
 
-    back_stands : (dir : Directive) (x : Data) → ((q : ℕ) (m : Bool) → site t c.place q ≡ some m → Site t reading (Place t reads) f q m) → StepStands (back t c dir x)
+    back_stands : (dir : Directive) (x : Data) → ((q : ℕ) (m : Bool) → site t c.place q ≡ Some m → Site t reading (Place t reads) f q m) → StepStands (back t c dir x)
     back_stands Plain x sites = tt
     back_stands (Branch b) x sites = tt
     back_stands (Stray a i) x sites = tt
     back_stands (Back q) x sites = by c.stack fs
       where
         lost : (o : Option Bool) → site t c.place q ≡ o → StepStands (wrong t o q x)
-        lost none e = tt
-        lost (some m) e = record { function = (sites q m e).caller; here = site_on f q m (sites q m e); frames = tt }
+        lost None e = tt
+        lost (Some m) e = record { function = (sites q m e).caller; here = site_on f q m (sites q m e); frames = tt }
 
         by : (st : List ℕ) → Frames t reading (Place t reads) f st → StepStands (right t (pop st q) q c x)
         by [] g = lost (site t c.place q) refl
-        by (p ∷ ps) (m, s, g) = same p q (λ b. StepStands (right t (pick b (some ps) none) q c x))
+        by (p ∷ ps) (m, s, g) = same p q (λ b. StepStands (right t (pick b (Some ps) None) q c x))
             (λ e. record { function = s.caller; here = rw (← e) (site_on f p m s); frames = g }) (λ _. lost (site t c.place q) refl)
 
     step_by : (i : Record) (dir : Directive) (x : Data) → t.rec c.place ≡ i → Place t reads f c.place tt → Flow t reading (Place t reads) f c.place tt i → StepStands (step_of t i c dir x)
@@ -84,12 +84,12 @@ module _ (t : Table) (reads : Known t) where
 
   after_stands : (w : Stepped) (room : ℕ) (c : Ctl) (x : Data) → Stands t reads c → StepStands w → (f : ℕ → Ctl → Data → Final)
       → ((k : ℕ) (d : Ctl) (u : Data) → Stands t reads d → EndStands t reads (f k d u)) → EndStands t reads (after_step w room c x f)
-  after_stands (Stop k) room c x s h f ih = s
-  after_stands (Went d u o) room c x s h f ih = test (leb (size o) room) (λ b. EndStands t reads (pick b (observed o (f (room - size o) d u)) (final 26 0 c x [])))
+  after_stands (Stopped k) room c x s h f ih = s
+  after_stands (Went d u o) room c x s h f ih = test (leb (size o) room) (λ b. EndStands t reads (pick b (observed o (f (room - size o) d u)) (final NoRoom 0 c x [])))
       (λ _. observed_stands o (f (room - size o) d u) (ih (room - size o) d u h)) (λ _. s)
 
   pub run_stands : (ds : List Directive) (room : ℕ) (c : Ctl) (x : Data) → Stands t reads c → EndStands t reads (run t ds room c x)
   unfolding run
-  run_stands [] room c x s = test (ended t c) (λ b. EndStands t reads (pick b (final 21 0 c x []) (final 20 0 c x []))) (λ _. s) (λ _. s)
-  run_stands (d ∷ ds) room c x s = test (ended t c) (λ b. EndStands t reads (pick b (final 21 0 c x []) (after_step (step t c d x) room c x (run t ds)))) (λ _. s)
+  run_stands [] room c x s = test (ended t c) (λ b. EndStands t reads (pick b (final Returned 0 c x []) (final ListEnded 0 c x []))) (λ _. s) (λ _. s)
+  run_stands (d ∷ ds) room c x s = test (ended t c) (λ b. EndStands t reads (pick b (final Returned 0 c x []) (after_step (step t c d x) room c x (run t ds)))) (λ _. s)
       (λ _. after_stands (step t c d x) room c x s (step_stands c s d x) (run t ds) (run_stands ds))

@@ -14,6 +14,7 @@ use Rattle.model.specs.theory.Words.{Levelled}
 use Rattle.model.proofs.theory.Words.{levels_in_lem}
 use Rattle.model.specs.Decide.{typing_tests, meets_of}
 use Rattle.model.specs.Walk.{Walking, Onward, Closed, Halt, Ending, Reached, Failed, on_next, on_shut, if_with, while_with, instr_with, type_block, type_instr}
+use Rattle.model.specs.declared.Fault.TheVariants.{TooDeep}
 use Rattle.model.specs.declared.Packed.{Packed}
 use Rattle.model.specs.declared.Simple.{Simple}
 use Rattle.model.specs.declared.Simple.TheVariants.{Const, Op, Select, Load, Store, Init, Update, Protect, LoadFixed, StoreFixed}
@@ -152,7 +153,7 @@ module _ (t : Table) (leaves : (f : ℕ) → f < t.functions → Whole t.registe
   -- a record's walk, and a block's, from a whole environment
   pub record_whole : (d size p : ℕ) (E : Env) → Whole t.registers t.arrays E → Where (Whole t.registers t.arrays) (type_instr t (typing t) (typing_tests t) d size p E)
   unfolding type_instr
-  record_whole zero size p E w = instr_kept (λ q F. Failed 6 p) (λ q F v. tt) (t.rec p) p E (t.fits p) (t.keeps p) w
+  record_whole zero size p E w = instr_kept (λ q F. Failed TooDeep p) (λ q F v. tt) (t.rec p) p E (t.fits p) (t.keeps p) w
   record_whole (suc d) size p E w = instr_kept (type_block t (typing t) (typing_tests t) (type_instr t (typing t) (typing_tests t) d size) size)
       (block_kept (type_instr t (typing t) (typing_tests t) d size) (record_whole d size) size) (t.rec p) p E (t.fits p) (t.keeps p) w
 

@@ -1,6 +1,5 @@
 -- What every place of a typed table satisfies, place by place: at f p E says that p, in function f, is typed from E.
-use Rattle.std.specs.Prelude.{ℕ, ◌+◌, ◌≡◌, Bool, true, false, List, [], ◌∷◌}
-use Rattle.std.proofs.Math.Option.{some}
+use Rattle.std.specs.Prelude.{ℕ, ◌+◌, ◌≡◌, Bool, true, false, List, [], ◌∷◌, Some}
 use Rattle.model.specs.Blocks.{Rules}
 use Rattle.model.specs.Records.{length_of}
 use Rattle.model.specs.Sites.{site}
@@ -35,7 +34,7 @@ module _ (t : Table) (R : Rules) (at : ℕ → ℕ → R.Env → Type 0) where
   Flow f p E Endif = To f (p + 1) E
   Flow f p E (While r e L) = (R.Public E r) × To f (p + 11) (R.guarded E r true) × To f (e + 3) (R.guarded E r false)
   Flow f p E (Endwhile w) = To f w E
-  Flow f p E Return = R.Within E (R.leave f) × ((q : ℕ) (m : Bool) → site t p q ≡ some m → Site f q m)
+  Flow f p E Return = R.Within E (R.leave f) × ((q : ℕ) (m : Bool) → site t p q ≡ Some m → Site f q m)
 
   abbrev pub Flows : Type 0
   Flows = (f p : ℕ) (E : R.Env) → at f p E → Flow f p E (t.rec p)
