@@ -1,6 +1,5 @@
 -- Laws of the numbers, as their readers use them.
-use Prim.Native.Nat.{ℕ, zero, suc, ◌+◌, ◌-◌, ◌/◌, ◌%◌, ◌≤◌}
-use native.Mathlib.Numerals.{sub-one}
+use Prim.Native.Nat.{ℕ, zero, suc, ◌+◌, ◌-◌, ◌/◌, ◌%◌, ◌<◌, ◌≤◌}
 use native.Mathlib.Omega.{arith}
 use mathlib.Core.Path.{◌≡◌, refl, sym}
 use mathlib.Core.Bool.{Bool, true, false}
@@ -24,11 +23,9 @@ past32 t p h = rw (sym (past t p h), sym (past t (p + 1) (omega arith)), sym (pa
 pub past_packed : (t : List ℕ) (p : ℕ) → length t ≤ p → record { status = 0; registers = 0; arrays = 0 } ≡ packed_at t p
 past_packed t p h = λ i. record { status = past t p h i; registers = past32 t (p + 1) (omega arith) i; arrays = past16 t (p + 5) (omega arith) i }
 
-pub levels_is : (n w : ℕ) → (n ≡ 0 → ⊥) → levels_in n w ≡ pick (eqb (w % 4) 3) false (levels_in (n - 1) (w / 4))
+-- one slot looked at, one fewer left
+pub levels_next : (n k w : ℕ) → k < n → eqb (w % 4) 3 ≡ false → levels_in (n - k) w ≡ levels_in (n - (k + 1)) (w / 4)
 unfolding levels_in
-levels_is zero w h = absurd (h refl)
-levels_is (suc n) w h = rw sub-one
-
-pub pick_self : (b : Bool) → pick b true false ≡ b
-pick_self true = refl
-pick_self false = refl
+levels_next n k w h e =
+    let m : n - k ≡ suc (n - (k + 1)) = omega arith in
+    rw (m, e) refl

@@ -1,16 +1,17 @@
 -- Document 01, "Table layout": one record of code, over the bytes of a table; and the words of its arrays, against
 -- which an index is tested.
-use Rattle.std.specs.Prelude.{ℕ, zero, suc, ◌+◌, ◌-◌, ◌*◌, List, [], ◌∷◌, Bool, length, get_or, ltb, leb, eqb}
+use Rattle.std.specs.Prelude.{ℕ, zero, suc, ◌+◌, ◌-◌, ◌*◌, List, [], ◌∷◌, Bool, length, get_or, ltb, leb, eqb, Result, Ok, Err}
 use Rattle.model.specs.Tests.{pick, all}
 use Rattle.model.specs.Packing.{packed_in}
 use Rattle.model.specs.Records.{length_of}
+use Rattle.model.specs.Numbers.{refusal, operation_of}
+use Rattle.model.specs.declared.Fault.TheVariants.{CutShort, UnknownKind, OutOfRange}
+use Rattle.model.specs.declared.Refusal.{Refusal}
 use Rattle.model.specs.declared.Sizes.{Sizes}
 use Rattle.model.specs.declared.Packed.{Packed}
 use Rattle.model.specs.declared.Simple.TheVariants.{Const, Op, Select, Load, Store, Init, Update, Protect, LoadFixed, StoreFixed}
 use Rattle.model.specs.declared.Record.{Record}
 use Rattle.model.specs.declared.Record.TheVariants.{Do, Call, If, Else, Endif, While, Endwhile, Return}
-use Rattle.format.specs.declared.Decoded.{Decoded}
-use Rattle.format.specs.declared.Decoded.TheVariants.{Got}
 
 -- byte p; numbers are unsigned, low byte first
 abbrev pub byte : List ℕ → ℕ → ℕ
@@ -43,8 +44,8 @@ find k d [] = d
 find k d (r ∷ rs) = pick (eqb k r.0) r.1 (find k d rs)
 
 -- a record of n bytes at `at`, the kind byte counted: cut short is 2, a field out of range 4
-abbrev pub shaped : {A : Type 0} → (ℕ → ℕ → A) → List ℕ → ℕ → ℕ → List Bool → A → A
-shaped bad t at n tests good = pick (ltb (length t - at) n) (bad 2 at) (pick (all tests) good (bad 4 at))
+abbrev pub shaped : {A : Type 0} → List ℕ → ℕ → ℕ → List Bool → Result A Refusal → Result A Refusal
+shaped t at n tests good = pick (ltb (length t - at) n) (Err (refusal CutShort at)) (pick (all tests) good (Err (refusal OutOfRange at)))
 
 -- a row: kind, tests of the fields, the record
 abbrev pub Row : Type 0
@@ -60,7 +61,7 @@ rows_of z t at =
     -- byte i names the array, bytes j and j + 1 the word
     let word : ℕ → ℕ → Bool = λ i j. ltb (word16 t (at + j)) (words_at z t (byte t (at + i))) in
     (0x10, reg 1 ∷ [], Do (Const (b 1) (word32 t (at + 2)))) ∷
-    (0x11, reg 1 ∷ ltb (b 2) 8 ∷ reg 3 ∷ reg 4 ∷ [], Do (Op (b 1) (b 2) (b 3) (b 4))) ∷
+    (0x11, reg 1 ∷ ltb (b 2) 8 ∷ reg 3 ∷ reg 4 ∷ [], Do (Op (b 1) (operation_of (b 2)) (b 3) (b 4))) ∷
     (0x12, reg 1 ∷ reg 2 ∷ reg 3 ∷ reg 4 ∷ [], Do (Select (b 1) (b 2) (b 3) (b 4))) ∷
     (0x13, reg 1 ∷ arr 2 ∷ reg 3 ∷ [], Do (Load (b 1) (b 2) (b 3))) ∷
     (0x14, arr 1 ∷ reg 2 ∷ reg 3 ∷ [], Do (Store (b 1) (b 2) (b 3))) ∷
@@ -77,17 +78,21 @@ rows_of z t at =
     (0x24, [], Endwhile (word16 t (at + 1))) ∷
     (0x25, [], Return) ∷ []
 
+-- what is read off as a record of code: the record, and the place after it
+abbrev pub Decoded : Type 0
+Decoded = Result (Record × ℕ) Refusal
+
 -- the record of kind k at `at`, by its row; no row is 3
 abbrev pub by_row : List ℕ → ℕ → ℕ → List Row → Decoded
-by_row t at k [] = Decoded.Fault 3 at
-by_row t at k (r ∷ rs) = pick (eqb k r.0) (shaped Decoded.Fault t at (length_of r.2) r.1 (Got r.2 (at + length_of r.2))) (by_row t at k rs)
+by_row t at k [] = Err (refusal UnknownKind at)
+by_row t at k (r ∷ rs) = pick (eqb k r.0) (shaped t at (length_of r.2) r.1 (Ok (r.2, at + length_of r.2))) (by_row t at k rs)
 
 unfoldable pub row_at : ℕ → Sizes → List ℕ → ℕ → Decoded
 row_at k z t at = by_row t at k (rows_of z t at)
 
 -- a record is due at `at`
 unfoldable pub decode_at : Sizes → List ℕ → ℕ → Decoded
-decode_at z t at = pick (leb (length t) at) (Decoded.Fault 2 at) (row_at (byte t at) z t at)
+decode_at z t at = pick (leb (length t) at) (Err (refusal CutShort at)) (row_at (byte t at) z t at)
 
 -- the length of a record of kind k, by the same rows (what bytes they are over does not count); 0 where there is none
 abbrev pub length_in : ℕ → List Row → ℕ

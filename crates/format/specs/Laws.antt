@@ -1,5 +1,5 @@
 -- What every decoded record is: of the kind that its byte says, in range, whole in the table.
-use Rattle.std.specs.Prelude.{ℕ, zero, suc, ◌+◌, ◌-◌, ◌<◌, ◌≤◌, ◌≡◌, refl, List, [], ◌∷◌, true, length, get_or, ltb, leb, eqb}
+use Rattle.std.specs.Prelude.{ℕ, zero, suc, ◌+◌, ◌-◌, ◌<◌, ◌≤◌, ◌≡◌, refl, List, [], ◌∷◌, true, length, get_or, ltb, leb, eqb, Ok, Err}
 use Rattle.std.proofs.Common.{arith, zero-add, sym, ap, subst, ◌∙◌, ltb-true, ltb-false, leb-false, eqb-true}
 use Rattle.model.specs.Tests.{all, Trues, trues, pick_ind}
 use Rattle.model.specs.Records.{length_of, Fits, Reaches, Keeps}
@@ -8,9 +8,7 @@ use Rattle.model.specs.declared.Simple.{Simple}
 use Rattle.model.specs.declared.Simple.TheVariants.{Const, Op, Select, Load, Store, Init, Update, Protect, LoadFixed, StoreFixed}
 use Rattle.model.specs.declared.Record.{Record}
 use Rattle.model.specs.declared.Record.TheVariants.{Do, Call, If, Else, Endif, While, Endwhile, Return}
-use Rattle.format.specs.declared.Decoded.{Decoded}
-use Rattle.format.specs.declared.Decoded.TheVariants.{Got}
-use Rattle.format.specs.Format.{byte, word16, words_at, words_from, Row, rows_of, by_row, row_at, decode_at}
+use Rattle.format.specs.Format.{Decoded, byte, word16, words_at, words_from, Row, rows_of, by_row, row_at, decode_at}
 
 -- the kind byte of a record
 abbrev pub simple_kind : Simple → ℕ
@@ -77,7 +75,7 @@ rows_fit z t at =
     λ i j l h. rw (words_first z t m (byte t (at + i)) l) (ltb-true (word16 t (at + j)) (words_at z t (byte t (at + i))) h) in (
       (λ w. (lt 1 n w.0, tt, tt), refl, tt),
       (
-        (λ w. ((lt 1 n w.0, lt 2 8 w.1.0, lt 3 n w.1.1.0, lt 4 n w.1.1.1.0), tt, tt), refl, tt),
+        (λ w. ((lt 1 n w.0, lt 3 n w.1.1.0, lt 4 n w.1.1.1.0), tt, tt), refl, tt),
         (
           (λ w. ((lt 1 n w.0, lt 2 n w.1.0, lt 3 n w.1.1.0, lt 4 n w.1.1.1.0), tt, tt), refl, tt),
           (
@@ -139,8 +137,8 @@ pub record Good (z : Sizes) (t : List ℕ) (at : ℕ) (r : Record) (n : ℕ) : T
   pub whole : n ≤ length t
 
 abbrev pub Sound : Sizes → List ℕ → ℕ → Decoded → Type 0
-Sound z t at (Got r n) = Good z t at r n
-Sound z t at (Decoded.Fault n p) = Unit {0}
+Sound z t at (Ok (r, n)) = Good z t at r n
+Sound z t at (Err e) = Unit {0}
 
 rows_sound : (z : Sizes) (t : List ℕ) (at k : ℕ) (rs : List Row) → k ≡ byte t at → at < length t → AllFit z t at rs → Sound z t at (by_row t at k rs)
 rows_sound z t at k [] e l f = tt
@@ -159,5 +157,5 @@ decode_sound z t at =
     pick_ind (Sound z t at) (leb (length t) at) (λ _. tt)
     (λ e. rows_sound z t at (byte t at) (rows_of z t at) refl (leb-false (length t) at e) (rows_fit z t at))
 
-pub good : (z : Sizes) (t : List ℕ) (at : ℕ) {r : Record} {n : ℕ} → decode_at z t at ≡ Got r n → Good z t at r n
+pub good : (z : Sizes) (t : List ℕ) (at : ℕ) {r : Record} {n : ℕ} → decode_at z t at ≡ Ok (r, n) → Good z t at r n
 good z t at e = subst (Sound z t at) e (decode_sound z t at)

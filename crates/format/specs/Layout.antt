@@ -1,18 +1,17 @@
 -- Document 01, "Table layout": the whole table. Sizes, the arrays, the signatures, then the functions in order,
 -- touching.
-use Rattle.std.specs.Prelude.{ℕ, zero, suc, ◌+◌, ◌-◌, ◌*◌, ◌<◌, ◌≤◌, ◌≡◌, refl, List, length, eqb, ltb}
+use Rattle.std.specs.Prelude.{ℕ, zero, suc, ◌+◌, ◌-◌, ◌*◌, ◌<◌, ◌≤◌, ◌≡◌, refl, List, length, eqb, ltb, Ok, Err}
 use Rattle.std.proofs.Common.{ap, lt-ltb, le-ltb}
 use Rattle.model.specs.Tests.{pick}
 use Rattle.model.specs.Packing.{env_of}
 use Rattle.model.specs.Records.{length_of, Fits, Reaches, Keeps}
 use Rattle.model.specs.Table.{Table}
+use Rattle.model.specs.declared.Refusal.{Refusal}
 use Rattle.model.specs.declared.Sizes.{Sizes}
 use Rattle.model.specs.declared.Packed.{Packed}
 use Rattle.model.specs.declared.Record.{Record}
 use Rattle.model.specs.declared.Record.TheVariants.{Return}
-use Rattle.format.specs.declared.Decoded.{Decoded}
-use Rattle.format.specs.declared.Decoded.TheVariants.{Got}
-use Rattle.format.specs.Format.{byte, word16, packed_at, array_place, words_from, decode_at}
+use Rattle.format.specs.Format.{Decoded, byte, word16, packed_at, array_place, words_from, decode_at}
 use Rattle.format.specs.Laws.{good}
 
 -- bytes 1 to 3
@@ -34,8 +33,8 @@ out_of z t f = packed_at t (signature_place z f + 10)
 
 -- the record at p; where none can be read, RETURN stands for it
 abbrev pub record_from : Decoded → Record
-record_from (Got r n) = r
-record_from (Decoded.Fault n p) = Return
+record_from (Ok (r, n)) = r
+record_from (Err e) = Return
 
 unfoldable pub record_of : Sizes → List ℕ → ℕ → Record
 record_of z t p = record_from (decode_at z t p)
@@ -54,11 +53,11 @@ words_count z t zero a = refl
 words_count z t (suc n) a = rw (words_count z t n (suc a))
 
 -- the record at p by what is decoded there
-pub record_got : (z : Sizes) (t : List ℕ) (p : ℕ) {r : Record} {n : ℕ} → decode_at z t p ≡ Got r n → record_of z t p ≡ r
+pub record_got : (z : Sizes) (t : List ℕ) (p : ℕ) {r : Record} {n : ℕ} → decode_at z t p ≡ Ok (r, n) → record_of z t p ≡ r
 unfolding record_of
 record_got z t p e = ap record_from e
 
-pub record_bad : (z : Sizes) (t : List ℕ) (p : ℕ) {n q : ℕ} → decode_at z t p ≡ Decoded.Fault n q → record_of z t p ≡ Return
+pub record_bad : (z : Sizes) (t : List ℕ) (p : ℕ) {x : Refusal} → decode_at z t p ≡ Err x → record_of z t p ≡ Return
 unfolding record_of
 record_bad z t p e = ap record_from e
 
@@ -72,13 +71,13 @@ unfolding next_of
 next_end z t p l = rw (le-ltb p (length t) l) refl
 
 -- what holds of RETURN, and of whatever is decoded at p, holds of the record there
-pub record_by : (P : Record → Type 0) (z : Sizes) (t : List ℕ) (p : ℕ) → P Return → ((r : Record) (n : ℕ) → decode_at z t p ≡ Got r n → P r) → P (record_of z t p)
+pub record_by : (P : Record → Type 0) (z : Sizes) (t : List ℕ) (p : ℕ) → P Return → ((r : Record) (n : ℕ) → decode_at z t p ≡ Ok (r, n) → P r) → P (record_of z t p)
 unfolding record_of
 record_by P z t p h g = go (decode_at z t p) refl
   where
     go : (d : Decoded) → decode_at z t p ≡ d → P (record_from d)
-    go (Got r n) e = g r n e
-    go (Decoded.Fault n q) e = h
+    go (Ok (r, n)) e = g r n e
+    go (Err x) e = h
 
 pub record_fits : (z : Sizes) (t : List ℕ) (p : ℕ) → Fits z.registers z.arrays (record_of z t p)
 record_fits z t p = record_by (Fits z.registers z.arrays) z t p tt (λ r n e. (good z t p e).fits)

@@ -9,64 +9,63 @@ ghost use Rattle.format.specs.Layout.{sizes_of, signature_place, start_of, in_of
 use format::{byte_at, packed_at, place_at};
 use model::{Packed, Sizes};
 
-fn wide(x: u8) -> usize
-    ensures { (result ≡ x) × (result < 256) }
-{
-    x as usize
+// The bytes of a table, with the sizes that its first record gives.
+#[derive(Clone, Copy)]
+pub struct Table<'a> {
+    pub bytes: &'a [u8],
+    pub sizes: Sizes,
 }
 
 // The sizes that the first record gives.
 pub fn sizes_of(t: &[u8]) -> Sizes
     ensures { result ≡ sizes_of t.now }
 {
-    let registers = byte_at(t, 1);
-    let arrays = byte_at(t, 2);
-    let functions = byte_at(t, 3);
     Sizes {
-        registers,
-        arrays,
-        functions,
+        registers: byte_at(t, 1),
+        arrays: byte_at(t, 2),
+        functions: byte_at(t, 3),
     }
 }
 
-fn array_place(z: Sizes, a: u8) -> usize
-    ensures { (result ≡ array_place z a) × (result < 1024) }
-{
-    4 + 3 * wide(a)
-}
+impl Table<'_> {
+    fn array_place(&self, a: u8) -> usize
+        ensures { (result ≡ array_place self.now.sizes a) × (result < 1024) }
+    {
+        4 + 3 * usize::from(a)
+    }
 
-// Where the signature of function f stands.
-fn signature_place(z: Sizes, f: u8) -> usize
-    ensures { (result ≡ signature_place z f) × (result < 8192) }
-{
-    let arrays = z.arrays;
-    array_place(z, arrays) + 17 * wide(f)
-}
+    // Where the signature of function f stands.
+    fn signature_place(&self, f: u8) -> usize
+        ensures { (result ≡ signature_place self.now.sizes f) × (result < 8192) }
+    {
+        self.array_place(self.sizes.arrays) + 17 * usize::from(f)
+    }
 
-// The first place of function f.
-pub fn start_of(t: &[u8], z: Sizes, f: u8) -> usize
-    ensures { (result ≡ start_of z t.now f) × (result < 65536) }
-{
-    place_at(t, signature_place(z, f) + 1)
-}
+    // The first place of function f.
+    pub fn start_of(&self, f: u8) -> usize
+        ensures { (result ≡ start_of self.now.sizes self.now.bytes.now f) × (result < 65536) }
+    {
+        place_at(self.bytes, self.signature_place(f) + 1)
+    }
 
-// The in-environment of function f, packed.
-pub fn in_of(t: &[u8], z: Sizes, f: u8) -> Packed
-    ensures { result ≡ in_of z t.now f }
-{
-    packed_at(t, signature_place(z, f) + 3)
-}
+    // The in-environment of function f, packed.
+    pub fn in_of(&self, f: u8) -> Packed
+        ensures { result ≡ in_of self.now.sizes self.now.bytes.now f }
+    {
+        packed_at(self.bytes, self.signature_place(f) + 3)
+    }
 
-// The out-environment of function f, packed.
-pub fn out_of(t: &[u8], z: Sizes, f: u8) -> Packed
-    ensures { result ≡ out_of z t.now f }
-{
-    packed_at(t, signature_place(z, f) + 10)
-}
+    // The out-environment of function f, packed.
+    pub fn out_of(&self, f: u8) -> Packed
+        ensures { result ≡ out_of self.now.sizes self.now.bytes.now f }
+    {
+        packed_at(self.bytes, self.signature_place(f) + 10)
+    }
 
-// The words of array a.
-pub fn words_at(t: &[u8], z: Sizes, a: u8) -> usize
-    ensures { (result ≡ words_at z t.now a) × (result < 65536) }
-{
-    place_at(t, array_place(z, a) + 1)
+    // The words of array a.
+    pub fn words_at(&self, a: u8) -> usize
+        ensures { (result ≡ words_at self.now.sizes self.now.bytes.now a) × (result < 65536) }
+    {
+        place_at(self.bytes, self.array_place(a) + 1)
+    }
 }

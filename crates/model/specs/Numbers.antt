@@ -1,5 +1,5 @@
 -- Document 01, "Numbers given back" and "The machine": the number of each fault and of each stop; and of each operation.
-use Rattle.std.specs.Prelude.{ℕ, eqb}
+use Rattle.std.specs.Prelude.{ℕ, eqb, Result, Ok, Err}
 use Rattle.model.specs.Tests.{pick}
 use Rattle.model.specs.declared.Fault.{Fault}
 use Rattle.model.specs.declared.Fault.TheVariants.{TooLong, CutShort, UnknownKind, OutOfRange, WrongPlace, TooDeep, NotLower, EntryStatus, BytesAfter, NotPublic, WrongStatus, NotWithinLoop, NotWithinIn, NotWithinOut, WrongLengths, BadList}
@@ -30,6 +30,11 @@ fault_number BadList = 16
 -- a fault, and its place
 abbrev pub refusal : Fault → ℕ → Refusal
 refusal f p = record { fault = f; place = p }
+
+-- what follows an answer that is no refusal; a refusal is handed on
+abbrev pub then : {A B : Type 0} → Result A Refusal → (A → Result B Refusal) → Result B Refusal
+then (Ok x) f = f x
+then (Err e) f = Err e
 
 abbrev pub stop_number : Stop → ℕ
 stop_number ListEnded = 20
