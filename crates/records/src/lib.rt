@@ -1,14 +1,15 @@
-// One record of code. This is the one place where a kind's byte, its length and its fields are given: code_length has
-// the lengths, decode names the reader of each kind, and a reader tests the fields in their order.
+// One record of code. A kind's byte, its length and its fields are given in one place each: Kind::of, Kind::length and
+// Fields::record.
 #![tactic(auto)]
 
-ghost use Rattle.std.specs.Prelude.{◌≡◌, ◌+◌, ◌≤◌, ◌<◌, length, ltb};
-ghost use Rattle.format.specs.Format.{code_length, words_at, decode_at, row_at};
+ghost use Rattle.std.specs.Prelude.{◌≡◌, ◌+◌, ◌<◌, length, IfSome, IfNone};
+ghost use Rattle.format.specs.Format.{word16, code_length, decode_at};
 ghost use Rattle.format.specs.Layout.{record_of, next_of};
+ghost use Rattle.records.specs.Kinds.{kind_byte, byte_below, bit_at, operation_at, index_at, fields_of};
 
-use format::{Decoded, byte_at, packed_at, packed_in, place_at, word_at};
-use layout::words_at;
-use model::{Record, Simple, Sizes};
+use format::{byte_at, packed_at, packed_in, place_at, word_at};
+use layout::Table;
+use model::{Fault, Operation, Record, Refusal, Simple};
 
 // A record of the code, and where the next one is due.
 #[derive(Clone, Copy)]
@@ -17,373 +18,351 @@ pub struct Met {
     pub next: usize,
 }
 
+// The kinds of code.
+#[derive(Clone, Copy, Debug, PartialEq, Eq)]
+enum Kind {
+    Const,
+    Op,
+    Select,
+    Load,
+    Store,
+    Init,
+    Update,
+    Protect,
+    Call,
+    LoadFixed,
+    StoreFixed,
+    If,
+    Else,
+    Endif,
+    While,
+    Endwhile,
+    Return,
+}
+
+impl Kind {
+    // The kind that a byte names.
+    #[tactic(auto, unfolding(format::specs::Format::code_length))]
+    fn of(byte: u8) -> Option<Kind>
+        ensures some { IfSome result (λ k. kind_byte k ≡ byte) }
+        ensures none { IfNone result (code_length byte ≡ 0) }
+    {
+        match byte {
+            0x10 => Some(Kind::Const),
+            0x11 => Some(Kind::Op),
+            0x12 => Some(Kind::Select),
+            0x13 => Some(Kind::Load),
+            0x14 => Some(Kind::Store),
+            0x15 => Some(Kind::Init),
+            0x16 => Some(Kind::Update),
+            0x17 => Some(Kind::Protect),
+            0x18 => Some(Kind::Call),
+            0x1B => Some(Kind::LoadFixed),
+            0x1C => Some(Kind::StoreFixed),
+            0x20 => Some(Kind::If),
+            0x21 => Some(Kind::Else),
+            0x22 => Some(Kind::Endif),
+            0x23 => Some(Kind::While),
+            0x24 => Some(Kind::Endwhile),
+            0x25 => Some(Kind::Return),
+            _ => None,
+        }
+    }
+
+    // The length of a record of this kind, the kind byte counted.
+    #[tactic(auto, unfolding(format::specs::Format::code_length))]
+    fn length(self) -> usize
+        ensures { (result ≡ code_length (kind_byte self)) × (result < 12) }
+    {
+        match self {
+            Kind::Init | Kind::Endif | Kind::Return => 1,
+            Kind::Update | Kind::Protect | Kind::Call | Kind::Else | Kind::Endwhile => 3,
+            Kind::Load | Kind::Store | Kind::If => 4,
+            Kind::Op | Kind::Select | Kind::LoadFixed | Kind::StoreFixed => 5,
+            Kind::Const => 6,
+            Kind::While => 11,
+        }
+    }
+}
+
 // The length of a record of code, the kind byte counted; 0 where no code has that kind.
 pub fn code_length(kind: u8) -> usize
     ensures { (result ≡ code_length kind) × (result < 12) }
 {
-    match kind {
-        0x10 => 6,
-        0x11 => 5,
-        0x12 => 5,
-        0x13 => 4,
-        0x14 => 4,
-        0x15 => 1,
-        0x16 => 3,
-        0x17 => 3,
-        0x18 => 3,
-        0x1B => 5,
-        0x1C => 5,
-        0x20 => 4,
-        0x21 => 3,
-        0x22 => 1,
-        0x23 => 11,
-        0x24 => 3,
-        0x25 => 1,
-        _ => 0,
+    match Kind::of(kind) {
+        Some(k) => k.length(),
+        None => 0,
     }
 }
 
-fn read_const(t: &[u8], at: usize, z: Sizes) -> Decoded
-    requires { at + 6 ≤ length t.now }
-    ensures { result ≡ row_at 0x10 z t.now at }
-{
-    let dest = t[at + 1];
-    let value = word_at(t, at + 2);
-    if z.registers <= dest {
-        return Decoded::Fault(4, at);
-    }
-    Decoded::Got(Record::Do(Simple::Const { dest, value }), at + 6)
+// The record at a place, once all its bytes are there. Each method but `record` and the readers of the kinds, below, reads
+// one field: i is the byte that it begins at, the kind being byte 0.
+#[derive(Clone, Copy)]
+struct Fields<'a> {
+    table: Table<'a>,
+    at: usize,
+    ghost inside: { at < length table.bytes.now },
 }
 
-fn read_op(t: &[u8], at: usize, z: Sizes) -> Decoded
-    requires { at + 5 ≤ length t.now }
-    ensures { result ≡ row_at 0x11 z t.now at }
-{
-    let dest = t[at + 1];
-    let op = t[at + 2];
-    let left = t[at + 3];
-    let right = t[at + 4];
-    if z.registers <= dest {
-        return Decoded::Fault(4, at);
+impl Fields<'_> {
+    // A byte that must be below n.
+    fn below(&self, i: u8, n: u8) -> Result<u8, Refusal>
+        ensures { result ≡ byte_below self.now.table.bytes.now self.now.at i n }
+    {
+        let field = byte_at(self.table.bytes, self.at + usize::from(i));
+        if n <= field {
+            return Err(Fault::OutOfRange.at(self.at));
+        }
+        Ok(field)
     }
-    if 8 <= op {
-        return Decoded::Fault(4, at);
-    }
-    if z.registers <= left {
-        return Decoded::Fault(4, at);
-    }
-    if z.registers <= right {
-        return Decoded::Fault(4, at);
-    }
-    Decoded::Got(
-        Record::Do(Simple::Op {
-            dest,
-            op,
-            left,
-            right,
-        }),
-        at + 5,
-    )
-}
 
-fn read_select(t: &[u8], at: usize, z: Sizes) -> Decoded
-    requires { at + 5 ≤ length t.now }
-    ensures { result ≡ row_at 0x12 z t.now at }
-{
-    let dest = t[at + 1];
-    let cond = t[at + 2];
-    let yes = t[at + 3];
-    let no = t[at + 4];
-    if z.registers <= dest {
-        return Decoded::Fault(4, at);
+    fn register(&self, i: u8) -> Result<u8, Refusal>
+        ensures { result ≡ byte_below self.now.table.bytes.now self.now.at i self.now.table.sizes.registers }
+    {
+        self.below(i, self.table.sizes.registers)
     }
-    if z.registers <= cond {
-        return Decoded::Fault(4, at);
-    }
-    if z.registers <= yes {
-        return Decoded::Fault(4, at);
-    }
-    if z.registers <= no {
-        return Decoded::Fault(4, at);
-    }
-    Decoded::Got(
-        Record::Do(Simple::Select {
-            dest,
-            cond,
-            yes,
-            no,
-        }),
-        at + 5,
-    )
-}
 
-fn read_load(t: &[u8], at: usize, z: Sizes) -> Decoded
-    requires { at + 4 ≤ length t.now }
-    ensures { result ≡ row_at 0x13 z t.now at }
-{
-    let dest = t[at + 1];
-    let array = t[at + 2];
-    let index = t[at + 3];
-    if z.registers <= dest {
-        return Decoded::Fault(4, at);
+    fn array(&self, i: u8) -> Result<u8, Refusal>
+        ensures { result ≡ byte_below self.now.table.bytes.now self.now.at i self.now.table.sizes.arrays }
+    {
+        self.below(i, self.table.sizes.arrays)
     }
-    if z.arrays <= array {
-        return Decoded::Fault(4, at);
-    }
-    if z.registers <= index {
-        return Decoded::Fault(4, at);
-    }
-    Decoded::Got(Record::Do(Simple::Load { dest, array, index }), at + 4)
-}
 
-fn read_store(t: &[u8], at: usize, z: Sizes) -> Decoded
-    requires { at + 4 ≤ length t.now }
-    ensures { result ≡ row_at 0x14 z t.now at }
-{
-    let array = t[at + 1];
-    let index = t[at + 2];
-    let source = t[at + 3];
-    if z.arrays <= array {
-        return Decoded::Fault(4, at);
+    fn bit(&self, i: u8) -> Result<bool, Refusal>
+        ensures { result ≡ bit_at self.now.table.bytes.now self.now.at i }
+    {
+        Ok(self.below(i, 2)? == 1)
     }
-    if z.registers <= index {
-        return Decoded::Fault(4, at);
+
+    fn operation(&self, i: u8) -> Result<Operation, Refusal>
+        ensures { result ≡ operation_at self.now.table.bytes.now self.now.at i }
+    {
+        Ok(match self.below(i, 8)? {
+            0 => Operation::Add,
+            1 => Operation::Sub,
+            2 => Operation::Mul,
+            3 => Operation::Xor,
+            4 => Operation::And,
+            5 => Operation::Or,
+            6 => Operation::Less,
+            _ => Operation::Equal,
+        })
     }
-    if z.registers <= source {
-        return Decoded::Fault(4, at);
+
+    fn place(&self, i: u8) -> usize
+        ensures { (result ≡ word16 self.now.table.bytes.now (self.now.at + i)) × (result < 65536) }
+    {
+        place_at(self.table.bytes, self.at + usize::from(i))
     }
-    Decoded::Got(
-        Record::Do(Simple::Store {
+
+    // The index of a word of array a. It is tested here, so that no run can stray from it.
+    fn index(&self, a: u8, i: u8) -> Result<u16, Refusal>
+        ensures { result ≡ index_at self.now.table.sizes self.now.table.bytes.now self.now.at a i }
+    {
+        let index = self.place(i);
+        if self.table.words_at(a) <= index {
+            return Err(Fault::OutOfRange.at(self.at));
+        }
+        Ok(index as u16)
+    }
+
+    #[tactic(auto, unfolding(crate::specs::Kinds::fields_of))]
+    fn constant(&self) -> Result<Record, Refusal>
+        ensures { result ≡ fields_of 0x10 self.now.table.sizes self.now.table.bytes.now self.now.at }
+    {
+        Ok(Record::Do(Simple::Const {
+            dest: self.register(1)?,
+            value: word_at(self.table.bytes, self.at + 2),
+        }))
+    }
+
+    #[tactic(auto, unfolding(crate::specs::Kinds::fields_of))]
+    fn op(&self) -> Result<Record, Refusal>
+        ensures { result ≡ fields_of 0x11 self.now.table.sizes self.now.table.bytes.now self.now.at }
+    {
+        Ok(Record::Do(Simple::Op {
+            dest: self.register(1)?,
+            op: self.operation(2)?,
+            left: self.register(3)?,
+            right: self.register(4)?,
+        }))
+    }
+
+    #[tactic(auto, unfolding(crate::specs::Kinds::fields_of))]
+    fn select(&self) -> Result<Record, Refusal>
+        ensures { result ≡ fields_of 0x12 self.now.table.sizes self.now.table.bytes.now self.now.at }
+    {
+        Ok(Record::Do(Simple::Select {
+            dest: self.register(1)?,
+            cond: self.register(2)?,
+            yes: self.register(3)?,
+            no: self.register(4)?,
+        }))
+    }
+
+    #[tactic(auto, unfolding(crate::specs::Kinds::fields_of))]
+    fn load(&self) -> Result<Record, Refusal>
+        ensures { result ≡ fields_of 0x13 self.now.table.sizes self.now.table.bytes.now self.now.at }
+    {
+        Ok(Record::Do(Simple::Load {
+            dest: self.register(1)?,
+            array: self.array(2)?,
+            index: self.register(3)?,
+        }))
+    }
+
+    #[tactic(auto, unfolding(crate::specs::Kinds::fields_of))]
+    fn store(&self) -> Result<Record, Refusal>
+        ensures { result ≡ fields_of 0x14 self.now.table.sizes self.now.table.bytes.now self.now.at }
+    {
+        Ok(Record::Do(Simple::Store {
+            array: self.array(1)?,
+            index: self.register(2)?,
+            source: self.register(3)?,
+        }))
+    }
+
+    #[tactic(auto, unfolding(crate::specs::Kinds::fields_of))]
+    fn update(&self) -> Result<Record, Refusal>
+        ensures { result ≡ fields_of 0x16 self.now.table.sizes self.now.table.bytes.now self.now.at }
+    {
+        Ok(Record::Do(Simple::Update {
+            register: self.register(1)?,
+            sense: self.bit(2)?,
+        }))
+    }
+
+    #[tactic(auto, unfolding(crate::specs::Kinds::fields_of))]
+    fn protect(&self) -> Result<Record, Refusal>
+        ensures { result ≡ fields_of 0x17 self.now.table.sizes self.now.table.bytes.now self.now.at }
+    {
+        Ok(Record::Do(Simple::Protect {
+            dest: self.register(1)?,
+            source: self.register(2)?,
+        }))
+    }
+
+    #[tactic(auto, unfolding(crate::specs::Kinds::fields_of))]
+    fn call(&self) -> Result<Record, Refusal>
+        ensures { result ≡ fields_of 0x18 self.now.table.sizes self.now.table.bytes.now self.now.at }
+    {
+        Ok(Record::Call {
+            function: self.below(1, self.table.sizes.functions)?,
+            mark: self.bit(2)?,
+        })
+    }
+
+    #[tactic(auto, unfolding(crate::specs::Kinds::fields_of))]
+    fn load_fixed(&self) -> Result<Record, Refusal>
+        ensures { result ≡ fields_of 0x1B self.now.table.sizes self.now.table.bytes.now self.now.at }
+    {
+        let dest = self.register(1)?;
+        let array = self.array(2)?;
+        let index = self.index(array, 3)?;
+        Ok(Record::Do(Simple::LoadFixed { dest, array, index }))
+    }
+
+    #[tactic(auto, unfolding(crate::specs::Kinds::fields_of))]
+    fn store_fixed(&self) -> Result<Record, Refusal>
+        ensures { result ≡ fields_of 0x1C self.now.table.sizes self.now.table.bytes.now self.now.at }
+    {
+        let array = self.array(1)?;
+        let index = self.index(array, 2)?;
+        let source = self.register(4)?;
+        Ok(Record::Do(Simple::StoreFixed {
             array,
             index,
             source,
-        }),
-        at + 4,
-    )
+        }))
+    }
+
+    #[tactic(auto, unfolding(crate::specs::Kinds::fields_of))]
+    fn branch(&self) -> Result<Record, Refusal>
+        ensures { result ≡ fields_of 0x20 self.now.table.sizes self.now.table.bytes.now self.now.at }
+    {
+        Ok(Record::If {
+            register: self.register(1)?,
+            to: self.place(2),
+        })
+    }
+
+    #[tactic(auto, unfolding(crate::specs::Kinds::fields_of))]
+    fn head_of_loop(&self) -> Result<Record, Refusal>
+        ensures { result ≡ fields_of 0x23 self.now.table.sizes self.now.table.bytes.now self.now.at }
+    {
+        let register = self.register(1)?;
+        let to = self.place(2);
+        let env = packed_at(self.table.bytes, self.at + 4);
+        if !packed_in(self.table.sizes, env) {
+            return Err(Fault::OutOfRange.at(self.at));
+        }
+        Ok(Record::While { register, to, env })
+    }
+
+    // The record, of this kind.
+    #[tactic(auto, unfolding(crate::specs::Kinds::fields_of))]
+    fn record(&self, kind: Kind) -> Result<Record, Refusal>
+        ensures { result ≡ fields_of (kind_byte kind) self.now.table.sizes self.now.table.bytes.now self.now.at }
+    {
+        match kind {
+            Kind::Const => self.constant(),
+            Kind::Op => self.op(),
+            Kind::Select => self.select(),
+            Kind::Load => self.load(),
+            Kind::Store => self.store(),
+            Kind::Init => Ok(Record::Do(Simple::Init)),
+            Kind::Update => self.update(),
+            Kind::Protect => self.protect(),
+            Kind::Call => self.call(),
+            Kind::LoadFixed => self.load_fixed(),
+            Kind::StoreFixed => self.store_fixed(),
+            Kind::If => self.branch(),
+            Kind::Else => Ok(Record::Else { to: self.place(1) }),
+            Kind::Endif => Ok(Record::Endif),
+            Kind::While => self.head_of_loop(),
+            Kind::Endwhile => Ok(Record::Endwhile { to: self.place(1) }),
+            Kind::Return => Ok(Record::Return),
+        }
+    }
 }
 
-fn read_update(t: &[u8], at: usize, z: Sizes) -> Decoded
-    requires { at + 3 ≤ length t.now }
-    ensures { result ≡ row_at 0x16 z t.now at }
+// The record due at `at`: an unknown kind is refused first, then a record cut short, then a field out of range.
+#[tactic(auto, using(crate::proofs::Laws::decode_past, crate::proofs::Laws::decode_none, crate::proofs::Laws::decode_short, crate::proofs::Laws::decode_whole,))]
+pub fn decode(table: &Table, at: usize) -> Result<(Record, usize), Refusal>
+    ensures { result ≡ decode_at table.now.sizes table.now.bytes.now at }
 {
-    let register = t[at + 1];
-    let sense = t[at + 2];
-    if z.registers <= register {
-        return Decoded::Fault(4, at);
+    if table.bytes.len() <= at {
+        return Err(Fault::CutShort.at(at));
     }
-    if 2 <= sense {
-        return Decoded::Fault(4, at);
+    let Some(kind) = Kind::of(table.bytes[at]) else {
+        return Err(Fault::UnknownKind.at(at));
+    };
+    if table.bytes.len() - at < kind.length() {
+        return Err(Fault::CutShort.at(at));
     }
-    Decoded::Got(
-        Record::Do(Simple::Update {
-            register,
-            sense: sense == 1,
-        }),
-        at + 3,
-    )
-}
-
-fn read_protect(t: &[u8], at: usize, z: Sizes) -> Decoded
-    requires { at + 3 ≤ length t.now }
-    ensures { result ≡ row_at 0x17 z t.now at }
-{
-    let dest = t[at + 1];
-    let source = t[at + 2];
-    if z.registers <= dest {
-        return Decoded::Fault(4, at);
-    }
-    if z.registers <= source {
-        return Decoded::Fault(4, at);
-    }
-    Decoded::Got(Record::Do(Simple::Protect { dest, source }), at + 3)
-}
-
-fn read_call(t: &[u8], at: usize, z: Sizes) -> Decoded
-    requires { at + 3 ≤ length t.now }
-    ensures { result ≡ row_at 0x18 z t.now at }
-{
-    let function = t[at + 1];
-    let mark = t[at + 2];
-    if z.functions <= function {
-        return Decoded::Fault(4, at);
-    }
-    if 2 <= mark {
-        return Decoded::Fault(4, at);
-    }
-    Decoded::Got(
-        Record::Call {
-            function,
-            mark: mark == 1,
-        },
-        at + 3,
-    )
-}
-
-// Array a has word i. The index of a fixed access is tested here, so that no run can stray from it.
-fn has_word(t: &[u8], z: Sizes, a: u8, i: usize) -> bool
-    ensures { result ≡ ltb i (words_at z t.now a) }
-{
-    i < words_at(t, z, a)
-}
-
-fn read_load_fixed(t: &[u8], at: usize, z: Sizes) -> Decoded
-    requires { at + 5 ≤ length t.now }
-    ensures { result ≡ row_at 0x1B z t.now at }
-{
-    let dest = t[at + 1];
-    let array = t[at + 2];
-    let index = place_at(t, at + 3);
-    if z.registers <= dest {
-        return Decoded::Fault(4, at);
-    }
-    if z.arrays <= array {
-        return Decoded::Fault(4, at);
-    }
-    if !has_word(t, z, array, index) {
-        return Decoded::Fault(4, at);
-    }
-    Decoded::Got(
-        Record::Do(Simple::LoadFixed {
-            dest,
-            array,
-            index: index as u16,
-        }),
-        at + 5,
-    )
-}
-
-fn read_store_fixed(t: &[u8], at: usize, z: Sizes) -> Decoded
-    requires { at + 5 ≤ length t.now }
-    ensures { result ≡ row_at 0x1C z t.now at }
-{
-    let array = t[at + 1];
-    let index = place_at(t, at + 2);
-    let source = t[at + 4];
-    if z.arrays <= array {
-        return Decoded::Fault(4, at);
-    }
-    if !has_word(t, z, array, index) {
-        return Decoded::Fault(4, at);
-    }
-    if z.registers <= source {
-        return Decoded::Fault(4, at);
-    }
-    Decoded::Got(
-        Record::Do(Simple::StoreFixed {
-            array,
-            index: index as u16,
-            source,
-        }),
-        at + 5,
-    )
-}
-
-fn read_if(t: &[u8], at: usize, z: Sizes) -> Decoded
-    requires { at + 4 ≤ length t.now }
-    ensures { result ≡ row_at 0x20 z t.now at }
-{
-    let register = t[at + 1];
-    let to = place_at(t, at + 2);
-    if z.registers <= register {
-        return Decoded::Fault(4, at);
-    }
-    Decoded::Got(Record::If { register, to }, at + 4)
-}
-
-fn read_else(t: &[u8], at: usize, z: Sizes) -> Decoded
-    requires { at + 3 ≤ length t.now }
-    ensures { result ≡ row_at 0x21 z t.now at }
-{
-    let to = place_at(t, at + 1);
-    Decoded::Got(Record::Else { to }, at + 3)
-}
-
-fn read_while(t: &[u8], at: usize, z: Sizes) -> Decoded
-    requires { at + 11 ≤ length t.now }
-    ensures { result ≡ row_at 0x23 z t.now at }
-{
-    let register = t[at + 1];
-    let to = place_at(t, at + 2);
-    let env = packed_at(t, at + 4);
-    if z.registers <= register {
-        return Decoded::Fault(4, at);
-    }
-    if !packed_in(z, env) {
-        return Decoded::Fault(4, at);
-    }
-    Decoded::Got(Record::While { register, to, env }, at + 11)
-}
-
-fn read_endwhile(t: &[u8], at: usize, z: Sizes) -> Decoded
-    requires { at + 3 ≤ length t.now }
-    ensures { result ≡ row_at 0x24 z t.now at }
-{
-    let to = place_at(t, at + 1);
-    Decoded::Got(Record::Endwhile { to }, at + 3)
-}
-
-// The record due at `at`: an unknown kind is 3, a record cut short 2, a field out of range 4, in that order.
-pub fn decode(t: &[u8], at: usize, z: Sizes) -> Decoded
-    ensures { result ≡ decode_at z t.now at }
-{
-    if t.len() <= at {
-        return Decoded::Fault(2, at);
-    }
-    let kind = t[at];
-    let n = code_length(kind);
-    if n == 0 {
-        return Decoded::Fault(3, at);
-    }
-    if t.len() - at < n {
-        return Decoded::Fault(2, at);
-    }
-    fields(t, at, z, kind)
+    let fields = Fields { table: *table, at };
+    let record = fields.record(kind)?;
+    Ok((record, at + kind.length()))
 }
 
 // The record at a place, for loops over the code. Where none can be read, RETURN stands for it; from the table's end
 // on, the place itself is the next.
-pub fn record_at(t: &[u8], at: usize, z: Sizes) -> Met
-    ensures { (result.record ≡ record_of z t.now at) × (result.next ≡ next_of z t.now at) }
+#[tactic(auto, using(crate::proofs::Laws::record_past, crate::proofs::Laws::next_got, format::specs::Layout::record_got, format::specs::Layout::record_bad, format::specs::Layout::next_on, format::specs::Layout::next_end,))]
+pub fn record_at(table: &Table, at: usize) -> Met
+    ensures { (result.record ≡ record_of table.now.sizes table.now.bytes.now at)
+        × (result.next ≡ next_of table.now.sizes table.now.bytes.now at) }
 {
-    if t.len() <= at {
+    if table.bytes.len() <= at {
         return Met {
             record: Record::Return,
             next: at,
         };
     }
-    let d = decode(t, at, z);
-    match d {
-        Decoded::Fault(n, p) => Met {
+    match decode(table, at) {
+        Ok((record, next)) => Met { record, next },
+        Err(_) => Met {
             record: Record::Return,
             next: at + 1,
         },
-        Decoded::Got(record, next) => Met { record, next },
-    }
-}
-
-// The fields of a record that is whole.
-fn fields(t: &[u8], at: usize, z: Sizes, kind: u8) -> Decoded
-    requires { (at < length t.now) × (at + code_length kind ≤ length t.now) }
-    ensures { result ≡ row_at kind z t.now at }
-{
-    match kind {
-        0x10 => read_const(t, at, z),
-        0x11 => read_op(t, at, z),
-        0x12 => read_select(t, at, z),
-        0x13 => read_load(t, at, z),
-        0x14 => read_store(t, at, z),
-        0x15 => Decoded::Got(Record::Do(Simple::Init), at + 1),
-        0x16 => read_update(t, at, z),
-        0x17 => read_protect(t, at, z),
-        0x18 => read_call(t, at, z),
-        0x1B => read_load_fixed(t, at, z),
-        0x1C => read_store_fixed(t, at, z),
-        0x20 => read_if(t, at, z),
-        0x21 => read_else(t, at, z),
-        0x22 => Decoded::Got(Record::Endif, at + 1),
-        0x23 => read_while(t, at, z),
-        0x24 => read_endwhile(t, at, z),
-        0x25 => Decoded::Got(Record::Return, at + 1),
-        _ => Decoded::Fault(3, at),
     }
 }
