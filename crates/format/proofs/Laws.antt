@@ -1,12 +1,11 @@
 -- Laws of the numbers, as their readers use them.
-use Prim.Native.Nat.{ℕ, zero, suc, ◌+◌, ◌-◌, ◌/◌, ◌%◌, ◌<◌, ◌≤◌}
+use Prim.Native.Nat.{ℕ, suc, ◌+◌, ◌-◌, ◌/◌, ◌%◌, ◌<◌, ◌≤◌}
 use native.Mathlib.Omega.{arith}
 use mathlib.Core.Path.{◌≡◌, refl, sym}
-use mathlib.Core.Bool.{Bool, true, false}
+use mathlib.Core.Bool.{false}
 use mathlib.Core.List.{List}
 use lib.ListN.{length, get_or-eq_default}
 use lib.Dec.{eqb}
-use Rattle.model.specs.Tests.{pick}
 use Rattle.model.specs.Packing.{levels_in}
 use Rattle.format.specs.Format.{byte, word16, word32, packed_at}
 
