@@ -1,93 +1,83 @@
--- Laws of the reading's definitions, as the readers use them: counts, nestings, a turn of a block's loop.
+-- Laws of the reading's definitions, as the readers use them: an instruction by its record, a block by its first
+-- instruction, the functions by the first that is left; and where a block that is shut ends.
 use Prim.Native.Nat.{ℕ, zero, suc, ◌+◌, ◌-◌, ◌<◌, ◌≤◌}
 use native.Mathlib.Omega.{arith}
 use native.Mathlib.Numerals.{sub-one}
-use mathlib.Core.Path.{◌≡◌, refl, sym, ap, subst, ◌∙◌}
+use mathlib.Core.Path.{◌≡◌, refl, sym, subst, ◌∙◌}
 use mathlib.Core.List.{List}
 use lib.ListN.{length}
-use borrow.Author.Tests.{le-leb, eq-eqb, ne_eqb}
+use Rattle.std.specs.Prelude.{Result, Ok, Err}
+use borrow.Author.Tests.{le-leb}
+use Rattle.model.specs.Numbers.{refusal, then}
 use Rattle.model.specs.Records.{length_pos}
+use Rattle.model.specs.declared.Fault.TheVariants.{CutShort}
+use Rattle.model.specs.declared.Refusal.{Refusal}
 use Rattle.model.specs.declared.Sizes.{Sizes}
 use Rattle.model.specs.declared.Walked.{Walked}
-use Rattle.model.specs.declared.Walked.TheVariants.{Next, Shut, Fault}
-use Rattle.model.specs.declared.Ended.{Ended}
-use Rattle.format.specs.Format.{word16}
-use Rattle.format.specs.Head.{then}
-use Rattle.reading.specs.Reading.{on_record, on_next, on_shut, record_at, met, if_with, while_with, read_with, block_with, instr_at, block_at, blocks_at, function_at, functions_at}
-use Rattle.reading.specs.theory.Steps.{Closing, Ok, OkBlock, instr_ok, block_at_ok, else_whole, endwhile_whole}
-
-pub functions_is : (z : Sizes) (t : List ℕ) (n at : ℕ) → (n ≡ 0 → ⊥) → functions_at z t n at ≡ then (function_at z t (z.functions - n) at) (functions_at z t (n - 1))
-unfolding functions_at
-functions_is z t zero at h = absurd (h refl)
-functions_is z t (suc n) at h = rw sub-one
+use Rattle.model.specs.declared.Walked.TheVariants.{Next, Shut}
+use Rattle.reading.specs.Reading.{record_at, read_with, onward, block_with, instr_at, block_at, blocks_at, function_at, functions_at}
+use Rattle.reading.specs.theory.Steps.{Closing, Forward, ForwardBlock, instr_ok, block_at_ok, else_whole, endwhile_whole}
 
 -- an instruction by its record
-pub instr_is : (d cur : ℕ) (z : Sizes) (t : List ℕ) (c at : ℕ) → instr_at d cur z t c at ≡ on_record Fault (record_at z t c at) (read_with (blocks_at d cur z t at) cur t at)
+pub instr_is : (d cur : ℕ) (z : Sizes) (t : List ℕ) (c at : ℕ) → instr_at d cur z t c at ≡ then (record_at z t c at) (read_with (blocks_at d cur z t at) cur t at)
 unfolding instr_at block_at
 instr_is zero cur z t c at = refl
 instr_is (suc d) cur z t c at = refl
 
--- IF and WHILE by their blocks, where a nesting is left
-pub if_is : (d cur : ℕ) (z : Sizes) (t : List ℕ) (at next e : ℕ) {w : Ended} → (d ≡ 0 → ⊥) → block_at (d - 1) cur z t 0x21 next ≡ w
-    → on_shut Fault w (λ p. met p e p (on_shut Fault (block_at (d - 1) cur z t 0x22 (p + 3)) λ q. met q (word16 t (p + 1)) q (Next (q + 1)))) ≡ if_with (blocks_at d cur z t at) t next e
-unfolding if_with
-if_is zero cur z t at next e h b = absurd (h refl)
-if_is (suc d) cur z t at next e h b = rw (sym b, sub-one) refl
+-- the blocks of a record, where a nesting is left
+pub blocks_is : (d cur : ℕ) (z : Sizes) (t : List ℕ) (at c from : ℕ) → (d ≡ 0 → ⊥) → blocks_at d cur z t at c from ≡ block_at (d - 1) cur z t c from
+blocks_is zero cur z t at c from h = absurd (h refl)
+blocks_is (suc d) cur z t at c from h = rw sub-one refl
 
-pub if_met : (d cur : ℕ) (z : Sizes) (t : List ℕ) (at next e : ℕ) {p : ℕ} {w : Ended} → (d ≡ 0 → ⊥) → block_at (d - 1) cur z t 0x21 next ≡ Ended.Shut p → p ≡ e → block_at (d - 1) cur z t 0x22 (p + 3) ≡ w
-    → on_shut Fault w (λ q. met q (word16 t (p + 1)) q (Next (q + 1))) ≡ if_with (blocks_at d cur z t at) t next e
-if_met d cur z t at next e {p} h b k f = rw (sym (if_is d cur z t at next e h b), sym f, eq-eqb p e k) refl
+module _ (d cur : ℕ) (z : Sizes) (t : List ℕ) (c : ℕ) where
+  abbrev step : ℕ → Result Walked Refusal
+  step = instr_at d cur z t c
 
-pub if_missed : (d cur : ℕ) (z : Sizes) (t : List ℕ) (at next e : ℕ) {p : ℕ} → (d ≡ 0 → ⊥) → block_at (d - 1) cur z t 0x21 next ≡ Ended.Shut p → (p ≡ e → ⊥) → Fault 5 p ≡ if_with (blocks_at d cur z t at) t next e
-if_missed d cur z t at next e {p} h b k = rw (sym (if_is d cur z t at next e h b), ne_eqb p e k) refl
+  -- past the end an instruction is cut
+  instr_end : (at : ℕ) → length t ≤ at → step at ≡ Err (refusal CutShort at)
+  unfolding record_at
+  instr_end at le = rw (instr_is d cur z t c at) (simp le-leb)
 
-pub while_is : (d cur : ℕ) (z : Sizes) (t : List ℕ) (at next e : ℕ) {w : Ended} → (d ≡ 0 → ⊥) → block_at (d - 1) cur z t 0x24 next ≡ w
-    → on_shut Fault w (λ p. met p e p (met (word16 t (p + 1)) at p (Next (p + 3)))) ≡ while_with (blocks_at d cur z t at) t at next e
-unfolding while_with
-while_is zero cur z t at next e h b = absurd (h refl)
-while_is (suc d) cur z t at next e h b = rw (sym b, sub-one) refl
+  -- the bound of a block's records does not count, once it is that of the bytes left
+  enough : (k j at : ℕ) → length t - at ≤ k → length t - at ≤ j → block_with step k at ≡ block_with step j at
+  unfolding block_with
+  enough zero zero at l m = refl
+  enough zero (suc j) at l m = rw (instr_end at (omega arith)) refl
+  enough (suc k) zero at l m = rw (instr_end at (omega arith)) refl
+  enough (suc k) (suc j) at l m = go (step at) (instr_ok d cur z t c at) (λ p. enough k j p)
+    where
+      go : (w : Result Walked Refusal) → Forward z t c at w → ((p : ℕ) → length t - p ≤ k → length t - p ≤ j → block_with step k p ≡ block_with step j p)
+          → then w (onward (block_with step k)) ≡ then w (onward (block_with step j))
+      go (Ok (Next p)) f ih = ih p (omega (arith, f.0, f.1)) (omega (arith, f.0, f.1))
+      go (Ok (Shut p)) f ih = refl
+      go (Err _) f ih = refl
 
-pub while_met : (d cur : ℕ) (z : Sizes) (t : List ℕ) (at next e : ℕ) {p : ℕ} → (d ≡ 0 → ⊥) → block_at (d - 1) cur z t 0x24 next ≡ Ended.Shut p → p ≡ e
-    → met (word16 t (p + 1)) at p (Next (p + 3)) ≡ while_with (blocks_at d cur z t at) t at next e
-while_met d cur z t at next e {p} h b k = rw (sym (while_is d cur z t at next e h b), eq-eqb p e k) refl
+  -- a block by its first instruction
+  pub block_is : (at : ℕ) → block_at d cur z t c at ≡ then (step at) (onward (block_at d cur z t c))
+  unfolding block_at block_with
+  block_is at = enough (length t) (suc (length t)) at (omega arith) (omega arith)
 
-pub while_missed : (d cur : ℕ) (z : Sizes) (t : List ℕ) (at next e : ℕ) {p : ℕ} → (d ≡ 0 → ⊥) → block_at (d - 1) cur z t 0x24 next ≡ Ended.Shut p → (p ≡ e → ⊥) → Fault 5 p ≡ while_with (blocks_at d cur z t at) t at next e
-while_missed d cur z t at next e {p} h b k = rw (sym (while_is d cur z t at next e h b), ne_eqb p e k) refl
+  -- an instruction goes on within the table
+  pub next_falls : (at p : ℕ) → step at ≡ Ok (Next p) → length t - p < length t - at
+  next_falls at p e = let f = subst (Forward z t c at) e (instr_ok d cur z t c at) in omega (arith, f.0, f.1)
 
--- a block that is shut is shut in the table
-pub shut : (d cur : ℕ) (z : Sizes) (t : List ℕ) (c at : ℕ) {p : ℕ} → block_at d cur z t c at ≡ Ended.Shut p → Closing z t c p
-shut d cur z t c at e = (subst (OkBlock z t c at) e (block_at_ok d cur z t c at)).1
+  -- a block that is shut is shut in the table
+  shut : (at : ℕ) {p : ℕ} → block_at d cur z t c at ≡ Ok p → Closing z t c p
+  shut at e = (subst (ForwardBlock z t c at) e (block_at_ok d cur z t c at)).1
 
-pub shut_one : (d cur : ℕ) (z : Sizes) (t : List ℕ) (c at : ℕ) {p : ℕ} → block_at d cur z t c at ≡ Ended.Shut p → p + 1 ≤ length t
-shut_one d cur z t c at e = let k = shut d cur z t c at e in omega (arith, k.whole, length_pos k.with)
+  pub shut_one : (at : ℕ) {p : ℕ} → block_at d cur z t c at ≡ Ok p → p + 1 ≤ length t
+  shut_one at e = let k = shut at e in omega (arith, k.whole, length_pos k.with)
 
-pub shut_else : (d cur : ℕ) (z : Sizes) (t : List ℕ) (at : ℕ) {p : ℕ} → block_at d cur z t 0x21 at ≡ Ended.Shut p → p + 3 ≤ length t
+pub shut_else : (d cur : ℕ) (z : Sizes) (t : List ℕ) (at : ℕ) {p : ℕ} → block_at d cur z t 0x21 at ≡ Ok p → p + 3 ≤ length t
 shut_else d cur z t at e = else_whole z t _ (shut d cur z t 0x21 at e)
 
-pub shut_endwhile : (d cur : ℕ) (z : Sizes) (t : List ℕ) (at : ℕ) {p : ℕ} → block_at d cur z t 0x24 at ≡ Ended.Shut p → p + 3 ≤ length t
+pub shut_endwhile : (d cur : ℕ) (z : Sizes) (t : List ℕ) (at : ℕ) {p : ℕ} → block_at d cur z t 0x24 at ≡ Ok p → p + 3 ≤ length t
 shut_endwhile d cur z t at e = endwhile_whole z t _ (shut d cur z t 0x24 at e)
 
--- past the end an instruction is cut
-pub instr_end : (d cur : ℕ) (z : Sizes) (t : List ℕ) (c at : ℕ) → length t ≤ at → instr_at d cur z t c at ≡ Fault 2 at
-unfolding instr_at record_at
-instr_end zero cur z t c at le = simp le-leb
-instr_end (suc d) cur z t c at le = simp le-leb
-
--- a turn of the loop of a block, k bounding the records from `at` on
-pub turn_next : (d cur : ℕ) (z : Sizes) (t : List ℕ) (c k at n : ℕ) → instr_at d cur z t c at ≡ Next n → length t - at ≤ k
-    → (j : ℕ) × (length t - n ≤ j) × (block_with (instr_at d cur z t c) k at ≡ block_with (instr_at d cur z t c) j n)
-unfolding block_with
-turn_next d cur z t c zero at n e le = let x : ◌≡◌ {A = ℕ} 0 1 = cc (instr_end d cur z t c at (omega arith)) in absurd (omega arith)
-turn_next d cur z t c (suc k) at n e le =
-    let ok : (at < n) × (n ≤ length t) = subst (Ok z t c at) e (instr_ok d cur z t c at) in
-    (k, omega (arith, ok.0), ap (λ (w : Walked). on_next w (block_with (instr_at d cur z t c) k)) e)
-
-pub turn_shut : (d cur : ℕ) (z : Sizes) (t : List ℕ) (c k at p : ℕ) → instr_at d cur z t c at ≡ Shut p → length t - at ≤ k → block_with (instr_at d cur z t c) k at ≡ Ended.Shut p
-unfolding block_with
-turn_shut d cur z t c zero at p e le = let x : ◌≡◌ {A = ℕ} 0 1 = cc (instr_end d cur z t c at (omega arith)) in absurd (omega arith)
-turn_shut d cur z t c (suc k) at p e le = ap (λ (w : Walked). on_next w (block_with (instr_at d cur z t c) k)) e
-
-pub turn_fault : (d cur : ℕ) (z : Sizes) (t : List ℕ) (c k at n p : ℕ) → instr_at d cur z t c at ≡ Fault n p → length t - at ≤ k → block_with (instr_at d cur z t c) k at ≡ Ended.Fault n p
-unfolding block_with
-turn_fault d cur z t c zero at n p e le = ap (λ (w : Walked). on_next w (λ x. Ended.Fault 2 x)) (sym (instr_end d cur z t c at (omega arith)) ∙ e)
-turn_fault d cur z t c (suc k) at n p e le = ap (λ (w : Walked). on_next w (block_with (instr_at d cur z t c) k)) e
+-- one function read, one fewer left
+pub functions_next : (z : Sizes) (t : List ℕ) (i at p : ℕ) → i < z.functions → function_at z t i at ≡ Ok p → functions_at z t (z.functions - i) at ≡ functions_at z t (z.functions - (i + 1)) p
+unfolding functions_at
+functions_next z t i at p l e =
+    let m : z.functions - i ≡ suc (z.functions - (i + 1)) = omega arith in
+    let k : z.functions - suc (z.functions - (i + 1)) ≡ i = omega arith in
+    rw (m, k, e) refl

@@ -4,52 +4,34 @@
 ghost use Rattle.std.specs.Prelude.{◌≡◌};
 ghost use Rattle.reading.specs.Reading.{read_at, parts_at};
 
-use format::To;
-use model::Sizes;
+use layout::Table;
+use model::{Fault, Refusal, Sizes};
 
 mod code;
 
-// What the reading of a table answers: its sizes, or the first fault with its place.
-#[derive(Clone, Copy)]
-pub enum Answer {
-    Reads(Sizes),
-    Refused(u8, usize),
-}
-
-// Reads a whole table.
-pub fn read(t: &[u8]) -> Answer
+// Reads a whole table: its sizes, or the first fault with its place.
+#[tactic(auto, unfolding(crate::specs::Reading::read_at))]
+pub fn read(t: &[u8]) -> Result<Sizes, Refusal>
     ensures { result ≡ read_at t.now }
 {
     if 32768 < t.len() {
-        return Answer::Refused(1, 0);
+        return Err(Fault::TooLong.at(0));
     }
-    let z = layout::sizes_of(t);
-    let all = parts(t, z);
-    match all {
-        To::Fault(n, p) => Answer::Refused(n, p),
-        To::At(p) => Answer::Reads(z),
-    }
+    let table = Table {
+        bytes: t,
+        sizes: layout::sizes_of(t),
+    };
+    parts(&table)?;
+    Ok(table.sizes)
 }
 
 // Sizes, arrays, signatures, functions.
-fn parts(t: &[u8], z: Sizes) -> To
-    ensures { result ≡ parts_at z t.now }
+#[tactic(auto, unfolding(crate::specs::Reading::parts_at))]
+fn parts(table: &Table) -> Result<usize, Refusal>
+    ensures { result ≡ parts_at table.now.sizes table.now.bytes.now }
 {
-    let first = head::sizes(t, 0);
-    match first {
-        To::Fault(n, p) => To::Fault(n, p),
-        To::At(p) => {
-            let second = head::arrays(t, z.arrays, p);
-            match second {
-                To::Fault(n, q) => To::Fault(n, q),
-                To::At(q) => {
-                    let third = head::signatures(t, z, z.functions, q);
-                    match third {
-                        To::Fault(n, x) => To::Fault(n, x),
-                        To::At(x) => code::functions(t, z, z.functions, x),
-                    }
-                }
-            }
-        }
-    }
+    let arrays = head::sizes(table.bytes, 0)?;
+    let signatures = head::arrays(table.bytes, table.sizes.arrays, arrays)?;
+    let functions = head::signatures(table, table.sizes.functions, signatures)?;
+    code::functions(table, functions)
 }

@@ -15,15 +15,14 @@ use Rattle.model.specs.Rules.{reading}
 use Rattle.model.specs.theory.Code.{Known}
 use Rattle.model.specs.declared.Sizes.{Sizes}
 use Rattle.format.specs.Format.{byte, word16, packed_at}
-use Rattle.format.specs.Head.{then, sizes_at, array_at, signature_at, arrays_at, signatures_at}
+use Rattle.format.specs.Head.{To, sizes_at, array_at, signature_at, arrays_at, signatures_at}
 use Rattle.format.specs.Layout.{sizes_of, signature_place, table_of}
-use Rattle.format.specs.declared.To.{To}
-use Rattle.format.specs.declared.To.TheVariants.{At}
-use Rattle.reading.specs.declared.Answer.{Answer}
-use Rattle.reading.specs.declared.Answer.TheVariants.{Reads, Refused}
-use Rattle.reading.specs.Reading.{functions_at, parts_at, answered, read_at}
+use Rattle.reading.specs.Reading.{functions_at, parts_at, read_at}
 use Rattle.reading.specs.theory.Limits.{read_limits}
 use Rattle.reading.specs.theory.Linked.{all_read, touches}
+use Rattle.model.specs.Numbers.{refusal, then}
+use Rattle.model.specs.declared.Refusal.{Refusal}
+use Rattle.std.specs.Prelude.{Result, Ok, Err}
 
 module _ (t : List ℕ) where
   abbrev z : Sizes
@@ -31,8 +30,8 @@ module _ (t : List ℕ) where
 
   -- where the head's reading goes on
   abbrev Goes : ℕ → To → Type 0
-  Goes q (At p) = p ≡ q
-  Goes q (To.Fault n p) = Unit {0}
+  Goes q (Ok p) = p ≡ q
+  Goes q (Err _) = Unit {0}
 
   sizes_go : Goes 4 (sizes_at t 0)
   unfolding sizes_at
@@ -52,12 +51,12 @@ module _ (t : List ℕ) where
   arrays_go (suc n) at = go (array_at t at) (array_goes at) (arrays_go n)
     where
       move : (p : ℕ) (w : To) → p ≡ at + 3 → Goes (p + 3 * n) w → Goes (at + 3 * suc n) w
-      move p (At q) e g = omega arith
-      move p (To.Fault a b) e g = tt
+      move p (Ok q) e g = omega arith
+      move p (Err _) e g = tt
 
       go : (w : To) → Goes (at + 3) w → ((p : ℕ) → Goes (p + 3 * n) (arrays_at t n p)) → Goes (at + 3 * suc n) (then w (arrays_at t n))
-      go (At p) e ih = move p (arrays_at t n p) e (ih p)
-      go (To.Fault a b) e ih = tt
+      go (Ok p) e ih = move p (arrays_at t n p) e (ih p)
+      go (Err _) e ih = tt
 
   -- the two environments of a signature at `at` have levels in the table's slots, and nothing beside them
   abbrev pub Packs : ℕ → Type 0
@@ -66,8 +65,8 @@ module _ (t : List ℕ) where
   -- a signature that n others follow: the next one is due 17 bytes on, its environments are levels, and the entry's
   -- in status byte is 0
   abbrev Signed : ℕ → ℕ → To → Type 0
-  Signed n at (At p) = (p ≡ at + 17) × Packs at × (n ≡ 0 → byte t (at + 3) ≡ 0)
-  Signed n at (To.Fault k p) = Unit {0}
+  Signed n at (Ok p) = (p ≡ at + 17) × Packs at × (n ≡ 0 → byte t (at + 3) ≡ 0)
+  Signed n at (Err _) = Unit {0}
 
   signature_signs : (n at : ℕ) → Signed n at (signature_at z t n at)
   unfolding signature_at
@@ -88,8 +87,8 @@ module _ (t : List ℕ) where
           go (no q) = let k : all (eqb n 0 ∷ leb 1 b ∷ []) ≡ true = rw (eq-eqb n 0 e, le-leb 1 b (omega arith)) in absurd (true≢false (sym k ∙ h))
 
   abbrev AllSigned : ℕ → ℕ → To → Type 0
-  AllSigned n at (At p) = (1 ≤ n → byte t (at + 17 * (n - 1) + 3) ≡ 0) × ((f : ℕ) → f < n → Packs (at + 17 * f))
-  AllSigned n at (To.Fault k p) = Unit {0}
+  AllSigned n at (Ok p) = (1 ≤ n → byte t (at + 17 * (n - 1) + 3) ≡ 0) × ((f : ℕ) → f < n → Packs (at + 17 * f))
+  AllSigned n at (Err _) = Unit {0}
 
   signatures_sign : (n at : ℕ) → AllSigned n at (signatures_at z t n at)
   unfolding signatures_at
@@ -97,8 +96,8 @@ module _ (t : List ℕ) where
   signatures_sign (suc n) at = go (signature_at z t n at) (signature_signs n at) (signatures_sign n)
     where
       more : (p : ℕ) (w : To) → p ≡ at + 17 → Packs at → (n ≡ 0 → byte t (at + 3) ≡ 0) → AllSigned n p w → AllSigned (suc n) at w
-      more p (To.Fault a b) e s f h = tt
-      more p (At q) e s f h = (λ _. last (native.Mathlib.Decide.ℕ_discrete n 0), each)
+      more p (Err _) e s f h = tt
+      more p (Ok q) e s f h = (λ _. last (native.Mathlib.Decide.ℕ_discrete n 0), each)
         where
           last : Dec (n ≡ 0) → byte t (at + 17 * (suc n - 1) + 3) ≡ 0
           last (yes k) = let d : at + 17 * (suc n - 1) + 3 ≡ at + 3 = omega arith in ap (byte t) d ∙ f k
@@ -109,24 +108,24 @@ module _ (t : List ℕ) where
           each (suc g) l = let d : at + 17 * suc g ≡ p + 17 * g = omega arith in rw d (h.1 g (omega arith))
 
       go : (w : To) → Signed n at w → ((p : ℕ) → AllSigned n p (signatures_at z t n p)) → AllSigned (suc n) at (then w (signatures_at z t n))
-      go (At p) (e, s, f) ih = more p (signatures_at z t n p) e s f (ih p)
-      go (To.Fault a b) s ih = tt
+      go (Ok p) (e, s, f) ih = more p (signatures_at z t n p) e s f (ih p)
+      go (Err _) s ih = tt
 
   -- what the signatures have: the entry's in status is unknown, and every one's environments are levels
   abbrev Signatures : Type 0
   Signatures = (1 ≤ z.functions → byte t (signature_place z (z.functions - 1) + 3) ≡ 0) × ((f : ℕ) → f < z.functions → Packs (signature_place z f))
 
   abbrev SignedAt : To → Type 0
-  SignedAt (At p) = Signatures
-  SignedAt (To.Fault n p) = Unit {0}
+  SignedAt (Ok p) = Signatures
+  SignedAt (Err _) = Unit {0}
 
   rest_signed : (w v : To) (f : ℕ → To) → w ≡ v → AllSigned z.functions (4 + 3 * z.arrays) v → SignedAt (then v f)
-  rest_signed w (To.Fault n p) f e s = tt
-  rest_signed w (At p) f e s = keep (f p)
+  rest_signed w (Err _) f e s = tt
+  rest_signed w (Ok p) f e s = keep (f p)
     where
       keep : (u : To) → SignedAt u
-      keep (At q) = s
-      keep (To.Fault n q) = tt
+      keep (Ok q) = s
+      keep (Err _) = tt
 
   parts_signed : SignedAt (parts_at z t)
   unfolding parts_at
@@ -136,31 +135,31 @@ module _ (t : List ℕ) where
       third q e = rw e (rest_signed _ (signatures_at z t z.functions (4 + 3 * z.arrays)) (functions_at z t z.functions) refl (signatures_sign z.functions (4 + 3 * z.arrays)))
 
       second : (p : ℕ) → p ≡ 4 → (w : To) → Goes (p + 3 * z.arrays) w → SignedAt (then w (λ q. then (signatures_at z t z.functions q) (functions_at z t z.functions)))
-      second p e (At q) g = third q (omega arith)
-      second p e (To.Fault a b) g = tt
+      second p e (Ok q) g = third q (omega arith)
+      second p e (Err _) g = tt
 
       first : (w : To) → Goes 4 w → SignedAt (then w (λ p. then (arrays_at t z.arrays p) (λ q. then (signatures_at z t z.functions q) (functions_at z t z.functions))))
-      first (At p) e = second p e (arrays_at t z.arrays p) (arrays_go z.arrays p)
-      first (To.Fault a b) e = tt
+      first (Ok p) e = second p e (arrays_at t z.arrays p) (arrays_go z.arrays p)
+      first (Err _) e = tt
 
-  abbrev AnswerSigned : Answer → Type 0
-  AnswerSigned (Reads y) = Signatures
-  AnswerSigned (Refused n p) = Unit {0}
+  abbrev AnswerSigned : Result Sizes Refusal → Type 0
+  AnswerSigned (Ok y) = Signatures
+  AnswerSigned (Err _) = Unit {0}
 
-  answered_signed : (w : To) → SignedAt w → AnswerSigned (answered z w)
-  answered_signed (At p) h = h
-  answered_signed (To.Fault n p) h = tt
+  answered_signed : (w : To) → SignedAt w → AnswerSigned (then w (λ _. Ok z))
+  answered_signed (Ok p) h = h
+  answered_signed (Err _) h = tt
 
   answer_signed : AnswerSigned (read_at t)
   unfolding read_at
   answer_signed = pick_ind AnswerSigned (ltb 32768 (length t)) (λ _. tt) (λ _. answered_signed (parts_at z t) parts_signed)
 
   -- the environments of every signature: no slot is 3, and unused slots are 0
-  pub signed : (y : Sizes) → read_at t ≡ Reads y → (f : ℕ) → f < z.functions → Packs (signature_place z f)
+  pub signed : (y : Sizes) → read_at t ≡ Ok y → (f : ℕ) → f < z.functions → Packs (signature_place z f)
   signed y e = (subst AnswerSigned e answer_signed).1
 
   -- WHAT READING FOUND OUT
-  pub known : (y : Sizes) → read_at t ≡ Reads y → Known (table_of t)
+  pub known : (y : Sizes) → read_at t ≡ Ok y → Known (table_of t)
   known y e =
       let l = read_limits t y e in
       let some_function : 1 ≤ z.functions = l.1.some_function in

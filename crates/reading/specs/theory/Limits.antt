@@ -8,13 +8,12 @@ use borrow.Author.Tests.{leb-true, ltb-false}
 use Rattle.model.specs.Tests.{all, pick_ind, trues}
 use Rattle.model.specs.declared.Sizes.{Sizes}
 use Rattle.format.specs.Format.{byte}
-use Rattle.format.specs.Head.{then, sizes_at}
+use Rattle.format.specs.Head.{To, sizes_at}
 use Rattle.format.specs.Layout.{sizes_of}
-use Rattle.format.specs.declared.To.{To}
-use Rattle.format.specs.declared.To.TheVariants.{At}
-use Rattle.reading.specs.declared.Answer.{Answer}
-use Rattle.reading.specs.declared.Answer.TheVariants.{Reads, Refused}
-use Rattle.reading.specs.Reading.{parts_at, answered, read_at}
+use Rattle.reading.specs.Reading.{parts_at, read_at}
+use Rattle.model.specs.Numbers.{refusal, then}
+use Rattle.model.specs.declared.Refusal.{Refusal}
+use Rattle.std.specs.Prelude.{Result, Ok, Err}
 
 pub record Limits (z : Sizes) : Type 0 where
   pub some_register : 1 ≤ z.registers
@@ -25,8 +24,8 @@ pub record Limits (z : Sizes) : Type 0 where
 
 module _ (t : List ℕ) where
   abbrev Kept : To → Type 0
-  Kept (At p) = Limits (sizes_of t)
-  Kept (To.Fault n p) = Unit {0}
+  Kept (Ok p) = Limits (sizes_of t)
+  Kept (Err _) = Unit {0}
 
   sizes_kept : Kept (sizes_at t 0)
   unfolding sizes_at
@@ -47,29 +46,29 @@ module _ (t : List ℕ) where
       (λ _. tt))
 
   kept_on : (w : To) → Limits (sizes_of t) → Kept w
-  kept_on (At p) l = l
-  kept_on (To.Fault n p) l = tt
+  kept_on (Ok p) l = l
+  kept_on (Err _) l = tt
 
   then_kept : (w : To) (g : ℕ → To) → Kept w → Kept (then w g)
-  then_kept (At p) g l = kept_on (g p) l
-  then_kept (To.Fault n p) g l = tt
+  then_kept (Ok p) g l = kept_on (g p) l
+  then_kept (Err _) g l = tt
 
   parts_kept : Kept (parts_at (sizes_of t) t)
   unfolding parts_at
   parts_kept = then_kept (sizes_at t 0) _ sizes_kept
 
-  abbrev AnswerKept : Answer → Type 0
-  AnswerKept (Reads z) = (z ≡ sizes_of t) × Limits (sizes_of t) × (length t ≤ 32768)
-  AnswerKept (Refused n p) = Unit {0}
+  abbrev AnswerKept : Result Sizes Refusal → Type 0
+  AnswerKept (Ok z) = (z ≡ sizes_of t) × Limits (sizes_of t) × (length t ≤ 32768)
+  AnswerKept (Err _) = Unit {0}
 
-  answered_kept : (w : To) → length t ≤ 32768 → Kept w → AnswerKept (answered (sizes_of t) w)
-  answered_kept (At p) l k = (refl, k, l)
-  answered_kept (To.Fault n p) l k = tt
+  answered_kept : (w : To) → length t ≤ 32768 → Kept w → AnswerKept (then w (λ _. Ok (sizes_of t)))
+  answered_kept (Ok p) l k = (refl, k, l)
+  answered_kept (Err _) l k = tt
 
   answer_kept : AnswerKept (read_at t)
   unfolding read_at
   answer_kept = pick_ind AnswerKept (ltb 32768 (length t)) (λ _. tt) (λ e. answered_kept (parts_at (sizes_of t) t) (ltb-false 32768 (length t) e) parts_kept)
 
   -- what is known of the sizes and the length of a table that reads
-  pub read_limits : (z : Sizes) → read_at t ≡ Reads z → (z ≡ sizes_of t) × Limits (sizes_of t) × (length t ≤ 32768)
+  pub read_limits : (z : Sizes) → read_at t ≡ Ok z → (z ≡ sizes_of t) × Limits (sizes_of t) × (length t ≤ 32768)
   read_limits z e = subst AnswerKept e answer_kept

@@ -19,20 +19,17 @@ use Rattle.model.specs.declared.Packed.{Packed}
 use Rattle.model.specs.declared.Record.{Record}
 use Rattle.model.specs.declared.Record.TheVariants.{Do, Call, If, Else, Endif, While, Endwhile, Return}
 use Rattle.model.specs.declared.Walked.{Walked}
-use Rattle.model.specs.declared.Walked.TheVariants.{Next, Shut, Fault}
-use Rattle.model.specs.declared.Ended.{Ended}
-use Rattle.format.specs.Format.{word16}
-use Rattle.format.specs.Head.{then, sizes_at, arrays_at, signatures_at}
+use Rattle.model.specs.declared.Walked.TheVariants.{Next, Shut}
+use Rattle.format.specs.Format.{Decoded, word16}
+use Rattle.format.specs.Head.{To, sizes_at, arrays_at, signatures_at}
 use Rattle.format.specs.Laws.{kind_of, Names, good}
 use Rattle.format.specs.Layout.{sizes_of, start_of, record_got, return_of, table_of}
-use Rattle.format.specs.declared.Decoded.{Decoded}
-use Rattle.format.specs.declared.Decoded.TheVariants.{Got}
-use Rattle.format.specs.declared.To.{To}
-use Rattle.format.specs.declared.To.TheVariants.{At}
-use Rattle.reading.specs.declared.Answer.{Answer}
-use Rattle.reading.specs.declared.Answer.TheVariants.{Reads, Refused}
-use Rattle.reading.specs.Reading.{on_record, on_next, on_shut, record_at, call_at, met, if_with, while_with, read_with, block_with, instr_at, block_at, function_at, functions_at, parts_at, answered, read_at}
+use Rattle.reading.specs.Reading.{record_at, call_at, met, if_with, while_with, read_with, onward, block_with, instr_at, block_at, function_at, functions_at, parts_at, read_at}
 use Rattle.reading.specs.theory.Steps.{Closing, GoodAt, record_good, closing}
+use Rattle.model.specs.Numbers.{refusal, then}
+use Rattle.model.specs.declared.Refusal.{Refusal}
+use Rattle.std.specs.Prelude.{Result, Ok, Err}
+use Rattle.model.specs.declared.Fault.TheVariants.{WrongPlace, TooDeep}
 
 -- a closing record, by its kind
 abbrev ByKind : List ℕ → ℕ → ℕ → Record → Type 0
@@ -61,36 +58,36 @@ module _ (t : List ℕ) (g : ℕ) where
   closing_is c p k = rw (record_got z t p k.is) (by_kind t p c k.with k.closes k.kind k.names)
 
   -- what a record's reading has found out, a block's, and that of a block inside a record
-  abbrev Found : ℕ → ℕ → ℕ → Walked → Type 0
-  Found d c p (Next n) = (q : ℕ) → Block d n q → Block d p q
-  Found d c p (Shut n) = (n ≡ p) × Closing z t c p
-  Found d c p (Fault n k) = Unit {0}
+  abbrev Found : ℕ → ℕ → ℕ → Result Walked Refusal → Type 0
+  Found d c p (Ok (Next n)) = (q : ℕ) → Block d n q → Block d p q
+  Found d c p (Ok (Shut n)) = (n ≡ p) × Closing z t c p
+  Found d c p (Err _) = Unit {0}
 
-  abbrev pub FoundBlock : ℕ → ℕ → ℕ → Ended → Type 0
-  FoundBlock d c p (Ended.Shut q) = Block d p q × Closing z t c q
-  FoundBlock d c p (Ended.Fault n k) = Unit {0}
+  abbrev pub FoundBlock : ℕ → ℕ → ℕ → To → Type 0
+  FoundBlock d c p (Ok q) = Block d p q × Closing z t c q
+  FoundBlock d c p (Err _) = Unit {0}
 
-  abbrev Inner : ℕ → ℕ → ℕ → Ended → Type 0
-  Inner d c p (Ended.Shut q) = (b : Types T reading g p tt q tt) × (nesting T reading b < d) × Closing z t c q
-  Inner d c p (Ended.Fault n k) = Unit {0}
+  abbrev Inner : ℕ → ℕ → ℕ → To → Type 0
+  Inner d c p (Ok q) = (b : Types T reading g p tt q tt) × (nesting T reading b < d) × Closing z t c q
+  Inner d c p (Err _) = Unit {0}
 
-  inner : (d c p : ℕ) (w : Ended) → FoundBlock d c p w → Inner (suc d) c p w
-  inner d c p (Ended.Shut q) ((b, l), k) = (b, suc-le-suc l, k)
-  inner d c p (Ended.Fault n k) h = tt
+  inner : (d c p : ℕ) (w : To) → FoundBlock d c p w → Inner (suc d) c p w
+  inner d c p (Ok q) ((b, l), k) = (b, suc-le-suc l, k)
+  inner d c p (Err _) h = tt
 
-  block_found : (d c : ℕ) (f : ℕ → Walked) → ((p : ℕ) → Found d c p (f p)) → (k p : ℕ) → FoundBlock d c p (block_with f k p)
+  block_found : (d c : ℕ) (f : ℕ → Result Walked Refusal) → ((p : ℕ) → Found d c p (f p)) → (k p : ℕ) → FoundBlock d c p (block_with f k p)
   unfolding block_with
   block_found d c f h zero p = tt
   block_found d c f h (suc k) p = go (f p) (h p) (λ n. block_found d c f h k n)
     where
-      map : (n : ℕ) → ((q : ℕ) → Block d n q → Block d p q) → (w : Ended) → FoundBlock d c n w → FoundBlock d c p w
-      map n m (Ended.Shut x) (b, k) = (m x b, k)
-      map n m (Ended.Fault x y) r = tt
+      map : (n : ℕ) → ((q : ℕ) → Block d n q → Block d p q) → (w : To) → FoundBlock d c n w → FoundBlock d c p w
+      map n m (Ok x) (b, k) = (m x b, k)
+      map n m (Err _) r = tt
 
-      go : (w : Walked) → Found d c p w → ((n : ℕ) → FoundBlock d c n (block_with f k n)) → FoundBlock d c p (on_next w (block_with f k))
-      go (Next n) m ih = map n m (block_with f k n) (ih n)
-      go (Shut n) (e, k) ih = rw e ((done, zero-le), k)
-      go (Fault n x) m ih = tt
+      go : (w : Result Walked Refusal) → Found d c p w → ((n : ℕ) → FoundBlock d c n (block_with f k n)) → FoundBlock d c p (then w (onward (block_with f k)))
+      go (Ok (Next n)) m ih = map n m (block_with f k n) (ih n)
+      go (Ok (Shut n)) (e, k) ih = rw e ((done, zero-le), k)
+      go (Err _) m ih = tt
 
   -- a record that holds no block
   single_found : (d p : ℕ) (i : Record) → T.rec p ≡ i → Single i → Lower g i → (q : ℕ) → Block d (p + length_of i) q → Block d p q
@@ -99,30 +96,30 @@ module _ (t : List ℕ) (g : ℕ) where
       put_one : Block d (p + length_of (T.rec p)) q → Block d p q
       put_one (b, l) = (one {p = p} {q = q} (rw e s) (rw e n) b, l)
 
-  module _ (d : ℕ) (B : ℕ → ℕ → Ended) (h : (c p : ℕ) → Inner d c p (B c p)) (c p : ℕ) where
+  module _ (d : ℕ) (B : ℕ → ℕ → To) (h : (c p : ℕ) → Inner d c p (B c p)) (c p : ℕ) where
     if_found : (r e : ℕ) → T.rec p ≡ If r e → Found d c p (if_with B t (p + 4) e)
     unfolding if_with
     if_found r e i = first (B 0x21 (p + 4)) (h 0x21 (p + 4))
       where
-        second : (e₁ : ℕ) → T.rec e₁ ≡ Else (word16 t (e₁ + 1)) → e₁ ≡ e → (a : Types T reading g (p + 4) tt e₁ tt) → nesting T reading a < d → (w : Ended) → Inner d 0x22 (e₁ + 3) w
-            → Found d c p (on_shut Fault w λ q. met q (word16 t (e₁ + 1)) q (Next (q + 1)))
-        second e₁ j u a la (Ended.Fault x y) b = tt
-        second e₁ j u a la (Ended.Shut n) (b, lb, k) = same n (word16 t (e₁ + 1)) (λ v. Found d c p (pick v (Next (n + 1)) (Fault 5 n)))
+        second : (e₁ : ℕ) → T.rec e₁ ≡ Else (word16 t (e₁ + 1)) → e₁ ≡ e → (a : Types T reading g (p + 4) tt e₁ tt) → nesting T reading a < d → (w : To) → Inner d 0x22 (e₁ + 3) w
+            → Found d c p (then w λ q. met q (word16 t (e₁ + 1)) q (Ok (Next (q + 1))))
+        second e₁ j u a la (Err _) b = tt
+        second e₁ j u a la (Ok n) (b, lb, k) = same n (word16 t (e₁ + 1)) (λ v. Found d c p (pick v (Ok (Next (n + 1))) (Err (refusal WrongPlace n))))
             (λ v q w. (branch {p = p} (rw (← u) at i) tt a (j ∙ ap (λ (x : ℕ). Else x) (sym v)) b ((closing_is 0x22 n k).1 refl) w.0, omega (arith, w.1))) (λ _. tt)
 
-        first : (w : Ended) → Inner d 0x21 (p + 4) w → Found d c p (on_shut Fault w λ e₁. met e₁ e e₁ (on_shut Fault (B 0x22 (e₁ + 3)) λ q. met q (word16 t (e₁ + 1)) q (Next (q + 1))))
-        first (Ended.Fault x y) a = tt
-        first (Ended.Shut e₁) (a, la, k) = same e₁ e (λ v. Found d c p (pick v (on_shut Fault (B 0x22 (e₁ + 3)) λ q. met q (word16 t (e₁ + 1)) q (Next (q + 1))) (Fault 5 e₁)))
+        first : (w : To) → Inner d 0x21 (p + 4) w → Found d c p (then w λ e₁. met e₁ e e₁ (then (B 0x22 (e₁ + 3)) λ q. met q (word16 t (e₁ + 1)) q (Ok (Next (q + 1)))))
+        first (Err _) a = tt
+        first (Ok e₁) (a, la, k) = same e₁ e (λ v. Found d c p (pick v (then (B 0x22 (e₁ + 3)) λ q. met q (word16 t (e₁ + 1)) q (Ok (Next (q + 1)))) (Err (refusal WrongPlace e₁))))
             (λ u. second e₁ ((closing_is 0x21 e₁ k).0 refl) u a la (B 0x22 (e₁ + 3)) (h 0x22 (e₁ + 3))) (λ _. tt)
 
     while_found : (r e : ℕ) (L : Packed) → T.rec p ≡ While r e L → Found d c p (while_with B t p (p + 11) e)
     unfolding while_with
     while_found r e L i = body (B 0x24 (p + 11)) (h 0x24 (p + 11))
       where
-        body : (w : Ended) → Inner d 0x24 (p + 11) w → Found d c p (on_shut Fault w λ e₁. met e₁ e e₁ (met (word16 t (e₁ + 1)) p e₁ (Next (e₁ + 3))))
-        body (Ended.Fault x y) a = tt
-        body (Ended.Shut e₁) (a, la, k) = same e₁ e (λ v. Found d c p (pick v (met (word16 t (e₁ + 1)) p e₁ (Next (e₁ + 3))) (Fault 5 e₁)))
-            (λ u. same (word16 t (e₁ + 1)) p (λ v. Found d c p (pick v (Next (e₁ + 3)) (Fault 5 e₁)))
+        body : (w : To) → Inner d 0x24 (p + 11) w → Found d c p (then w λ e₁. met e₁ e e₁ (met (word16 t (e₁ + 1)) p e₁ (Ok (Next (e₁ + 3)))))
+        body (Err _) a = tt
+        body (Ok e₁) (a, la, k) = same e₁ e (λ v. Found d c p (pick v (met (word16 t (e₁ + 1)) p e₁ (Ok (Next (e₁ + 3)))) (Err (refusal WrongPlace e₁))))
+            (λ u. same (word16 t (e₁ + 1)) p (λ v. Found d c p (pick v (Ok (Next (e₁ + 3))) (Err (refusal WrongPlace e₁))))
             (λ v q w. (loop {p = p} (rw (← u) at i) tt tt a ((closing_is 0x24 e₁ k).2 refl ∙ ap (λ (x : ℕ). Endwhile x) v) tt w.0, omega (arith, w.1))) (λ _. tt))
             (λ _. tt)
 
@@ -130,7 +127,7 @@ module _ (t : List ℕ) (g : ℕ) where
     unfolding call_at
     call_found f m e = pick_ind (Found d c p) (ltb f g) (λ l. single_found d p (Call f m) e tt (ltb-true f g l)) (λ _. tt)
 
-    read_found : (i : Record) → T.rec p ≡ i → (Closes i → Closing z t c p) → Found d c p (read_with B g t p i (p + length_of i))
+    read_found : (i : Record) → T.rec p ≡ i → (Closes i → Closing z t c p) → Found d c p (read_with B g t p (i, p + length_of i))
     read_found (Do s) e k = single_found d p (Do s) e tt tt
     read_found (Call f m) e k = call_found f m e
     read_found (If r x) e k = if_found r x e
@@ -140,19 +137,19 @@ module _ (t : List ℕ) (g : ℕ) where
     read_found (Endwhile w) e k = (refl, k tt)
     read_found Return e k = (refl, k tt)
 
-    decoded_found : (w : Decoded) → GoodAt z t c p w → Found d c p (on_record Fault w (read_with B g t p))
-    decoded_found (Got r n) k =
+    decoded_found : (w : Decoded) → GoodAt z t c p w → Found d c p (then w (read_with B g t p))
+    decoded_found (Ok (r, n)) k =
         rw (good z t p k.0).next (read_found r (record_got z t p k.0) (closing z t c p n r k))
-    decoded_found (Decoded.Fault n q) k = tt
+    decoded_found (Err _) k = tt
 
   instr_found : (d c p : ℕ) → Found d c p (instr_at d g z t c p)
   unfolding instr_at
-  instr_found zero c p = decoded_found 0 (λ _ _. Ended.Fault 6 p) (λ _ _. tt) c p (record_at z t c p) (record_good z t c p)
+  instr_found zero c p = decoded_found 0 (λ _ _. Err (refusal TooDeep p)) (λ _ _. tt) c p (record_at z t c p) (record_good z t c p)
   instr_found (suc d) c p = decoded_found (suc d) (λ k. block_with (instr_at d g z t k) (length t))
       (λ k x. inner d k x (block_with (instr_at d g z t k) (length t) x) (block_found d k (instr_at d g z t k) (instr_found d k) (length t) x)) c p (record_at z t c p) (record_good z t c p)
 
   -- a block that closes at q
-  pub block_read : (d c p q : ℕ) → block_at d g z t c p ≡ Ended.Shut q → Block d p q × Closing z t c q
+  pub block_read : (d c p q : ℕ) → block_at d g z t c p ≡ Ok q → Block d p q × Closing z t c q
   unfolding block_at
   block_read d c p q e = subst (FoundBlock d c p) e (block_found d c (instr_at d g z t c) (instr_found d c) (length t) p)
 
@@ -167,20 +164,20 @@ module _ (t : List ℕ) where
 
   -- function f, from its start place, closes one byte before its end
   abbrev FunctionRead : ℕ → Type 0
-  FunctionRead f = (p : ℕ) × (block_at 16 f zs t 0x25 (start_of zs t f) ≡ Ended.Shut p) × (p + 1 ≡ end_of f)
+  FunctionRead f = (p : ℕ) × (block_at 16 f zs t 0x25 (start_of zs t f) ≡ Ok p) × (p + 1 ≡ end_of f)
 
   -- the reading of function i from `at` goes on at e
   abbrev One : ℕ → ℕ → To → Type 0
-  One i at (At e) = (p : ℕ) × (at ≡ start_of zs t i) × (block_at 16 i zs t 0x25 at ≡ Ended.Shut p) × (e ≡ p + 1)
-  One i at (To.Fault n p) = Unit {0}
+  One i at (Ok e) = (p : ℕ) × (at ≡ start_of zs t i) × (block_at 16 i zs t 0x25 at ≡ Ok p) × (e ≡ p + 1)
+  One i at (Err _) = Unit {0}
 
-  shut_one : (i at : ℕ) (w : Ended) → block_at 16 i zs t 0x25 at ≡ w → at ≡ start_of zs t i → One i at (on_shut To.Fault w (λ p. At (p + 1)))
-  shut_one i at (Ended.Shut p) e s = (p, s, e, refl)
-  shut_one i at (Ended.Fault n p) e s = tt
+  shut_one : (i at : ℕ) (w : To) → block_at 16 i zs t 0x25 at ≡ w → at ≡ start_of zs t i → One i at (then w (λ p. Ok (p + 1)))
+  shut_one i at (Ok p) e s = (p, s, e, refl)
+  shut_one i at (Err _) e s = tt
 
-  record_one : (i at : ℕ) (d : Decoded) → One i at (on_record To.Fault d (λ _ _. pick (eqb at (start_of zs t i)) (on_shut To.Fault (block_at 16 i zs t 0x25 at) (λ p. At (p + 1))) (To.Fault 5 at)))
-  record_one i at (Got r n) = pick_ind (One i at) (eqb at (start_of zs t i)) (λ e. shut_one i at (block_at 16 i zs t 0x25 at) refl (eqb-true at (start_of zs t i) e)) (λ _. tt)
-  record_one i at (Decoded.Fault n p) = tt
+  record_one : (i at : ℕ) (d : Decoded) → One i at (then d (λ _. pick (eqb at (start_of zs t i)) (then (block_at 16 i zs t 0x25 at) (λ p. Ok (p + 1))) (Err (refusal WrongPlace at))))
+  record_one i at (Ok (r, n)) = pick_ind (One i at) (eqb at (start_of zs t i)) (λ e. shut_one i at (block_at 16 i zs t 0x25 at) refl (eqb-true at (start_of zs t i) e)) (λ _. tt)
+  record_one i at (Err _) = tt
 
   function_one : (i at : ℕ) → One i at (function_at zs t i at)
   unfolding function_at
@@ -192,8 +189,8 @@ module _ (t : List ℕ) where
   begin_of (suc n) = start_of zs t (zs.functions - suc n)
 
   abbrev Rest : ℕ → ℕ → To → Type 0
-  Rest n at (At e) = (at ≡ begin_of n) × ((f : ℕ) → zs.functions - n ≤ f → f < zs.functions → FunctionRead f)
-  Rest n at (To.Fault k p) = Unit {0}
+  Rest n at (Ok e) = (at ≡ begin_of n) × ((f : ℕ) → zs.functions - n ≤ f → f < zs.functions → FunctionRead f)
+  Rest n at (Err _) = Unit {0}
 
   ends : (n : ℕ) → suc n ≤ zs.functions → begin_of n ≡ end_of (zs.functions - suc n)
   ends zero l = same (zs.functions - 1 + 1) zs.functions (λ b. length t ≡ pick b (length t) (start_of zs t (zs.functions - 1 + 1))) (λ _. refl) (λ h. absurd (h (omega arith)))
@@ -205,55 +202,55 @@ module _ (t : List ℕ) where
   functions_rest zero at l = pick_ind (Rest 0 at) (eqb at (length t)) (λ e. (eqb-true at (length t) e, λ f a b. absurd (omega arith))) (λ _. tt)
   functions_rest (suc n) at l = go (function_at zs t (zs.functions - suc n) at) (function_one (zs.functions - suc n) at) (λ p. functions_rest n p (omega arith))
     where
-      more : (p q : ℕ) → at ≡ start_of zs t (zs.functions - suc n) → block_at 16 (zs.functions - suc n) zs t 0x25 at ≡ Ended.Shut p → q ≡ p + 1 → (w : To) → Rest n q w → Rest (suc n) at w
-      more p q s b e (To.Fault k x) r = tt
-      more p q s b e (At x) (i, r) = (s, λ f a c. last f a c (ℕ_discrete f (zs.functions - suc n)))
+      more : (p q : ℕ) → at ≡ start_of zs t (zs.functions - suc n) → block_at 16 (zs.functions - suc n) zs t 0x25 at ≡ Ok p → q ≡ p + 1 → (w : To) → Rest n q w → Rest (suc n) at w
+      more p q s b e (Err _) r = tt
+      more p q s b e (Ok x) (i, r) = (s, λ f a c. last f a c (ℕ_discrete f (zs.functions - suc n)))
         where
           last : (f : ℕ) → zs.functions - suc n ≤ f → f < zs.functions → Dec (f ≡ zs.functions - suc n) → FunctionRead f
-          last f a c (yes k) = rw k (p, subst (λ (x : ℕ). block_at 16 (zs.functions - suc n) zs t 0x25 x ≡ Ended.Shut p) s b, sym e ∙ i ∙ ends n l)
+          last f a c (yes k) = rw k (p, subst (λ (x : ℕ). block_at 16 (zs.functions - suc n) zs t 0x25 x ≡ Ok p) s b, sym e ∙ i ∙ ends n l)
           last f a c (no k) = r f (omega arith) c
 
       go : (w : To) → One (zs.functions - suc n) at w → ((p : ℕ) → Rest n p (functions_at zs t n p)) → Rest (suc n) at (then w (functions_at zs t n))
-      go (At q) (p, s, b, e) ih = more p q s b e (functions_at zs t n q) (ih q)
-      go (To.Fault k x) w ih = tt
+      go (Ok q) (p, s, b, e) ih = more p q s b e (functions_at zs t n q) (ih q)
+      go (Err _) w ih = tt
 
   -- ---- the table
   abbrev pub AllRead : To → Type 0
-  AllRead (At e) = (f : ℕ) → f < zs.functions → FunctionRead f
-  AllRead (To.Fault n p) = Unit {0}
+  AllRead (Ok e) = (f : ℕ) → f < zs.functions → FunctionRead f
+  AllRead (Err _) = Unit {0}
 
   rest_all : (at : ℕ) (w : To) → Rest zs.functions at w → AllRead w
-  rest_all at (At e) (i, r) = λ f l. r f (omega arith) l
-  rest_all at (To.Fault n p) r = tt
+  rest_all at (Ok e) (i, r) = λ f l. r f (omega arith) l
+  rest_all at (Err _) r = tt
 
   then_all : (w : To) (g : ℕ → To) → ((p : ℕ) → AllRead (g p)) → AllRead (then w g)
-  then_all (At p) g h = h p
-  then_all (To.Fault n p) g h = tt
+  then_all (Ok p) g h = h p
+  then_all (Err _) g h = tt
 
   parts_all : AllRead (parts_at zs t)
   unfolding parts_at
   parts_all = then_all (sizes_at t 0) _ (λ p. then_all (arrays_at t zs.arrays p) _ (λ q. then_all (signatures_at zs t zs.functions q) (functions_at zs t zs.functions)
       (λ x. rest_all x (functions_at zs t zs.functions x) (functions_rest zs.functions x (omega arith)))))
 
-  abbrev AnswerRead : Answer → Type 0
-  AnswerRead (Reads y) = (y ≡ zs) × ((f : ℕ) → f < zs.functions → FunctionRead f)
-  AnswerRead (Refused n p) = Unit {0}
+  abbrev AnswerRead : Result Sizes Refusal → Type 0
+  AnswerRead (Ok y) = (y ≡ zs) × ((f : ℕ) → f < zs.functions → FunctionRead f)
+  AnswerRead (Err _) = Unit {0}
 
-  answered_read : (w : To) → AllRead w → AnswerRead (answered zs w)
-  answered_read (At p) h = (refl, h)
-  answered_read (To.Fault n p) h = tt
+  answered_read : (w : To) → AllRead w → AnswerRead (then w (λ _. Ok zs))
+  answered_read (Ok p) h = (refl, h)
+  answered_read (Err _) h = tt
 
   answer_read : AnswerRead (read_at t)
   unfolding read_at
   answer_read = pick_ind AnswerRead (ltb 32768 (length t)) (λ _. tt) (λ _. answered_read (parts_at zs t) parts_all)
 
   -- a table that reads answers with its own sizes
-  pub sizes_read : (y : Sizes) → read_at t ≡ Reads y → y ≡ sizes_of t
+  pub sizes_read : (y : Sizes) → read_at t ≡ Ok y → y ≡ sizes_of t
   sizes_read y e = (subst AnswerRead e answer_read).0
 
   -- THE LINK: every function of a table that reads is a block by reading's rules, nested at most 16 deep, and lies in
   -- the table
-  pub all_read : (y : Sizes) → read_at t ≡ Reads y → (g : ℕ) → g < (table_of t).functions → Read (table_of t) (suc (length t)) g
+  pub all_read : (y : Sizes) → read_at t ≡ Ok y → (g : ℕ) → g < (table_of t).functions → Read (table_of t) (suc (length t)) g
   unfolding return_of
   all_read y e g l =
       let (p, b, q) = (subst AnswerRead e answer_read).1 g l in
@@ -267,7 +264,7 @@ module _ (t : List ℕ) where
       }
 
   -- functions touch: each begins one byte after the RETURN of the one before, and the last RETURN ends the table
-  pub touches : (y : Sizes) → read_at t ≡ Reads y → (g : ℕ) → g < zs.functions → edge (table_of t) (suc g) ≡ return_of zs t g + 1
+  pub touches : (y : Sizes) → read_at t ≡ Ok y → (g : ℕ) → g < zs.functions → edge (table_of t) (suc g) ≡ return_of zs t g + 1
   unfolding return_of
   touches y e g l =
       let (p, b, q) = (subst AnswerRead e answer_read).1 g l in

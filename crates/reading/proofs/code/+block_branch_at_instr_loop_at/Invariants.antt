@@ -1,7 +1,7 @@
 -- What falls at each call of the readers' cycle: the nesting that is left, counted in steps of three. In the block's loop
 -- it is the bytes left, and the invariant says that the definition's block from the start is its block from here on.
-use Rattle.std.proofs.Common.{◌≡◌, ◌+◌, ◌-◌, ℕ, ◌*◌, ◌≤◌, length}
-use Rattle.reading.specs.Reading.{block_with, instr_at, block_at}
+use Rattle.std.proofs.Common.{◌≡◌, ◌+◌, ◌-◌, ◌*◌, length}
+use Rattle.reading.specs.Reading.{closing_byte, block_at}
 use Rattle.reading.proofs.code.+block_branch_at_instr_loop_at.Given as goal
 
 abbrev pub decreases-block : goal.decreases-block
@@ -16,8 +16,8 @@ decreases-instr l = 3 * l.depth + 1
 abbrev pub decreases-loop_at : goal.decreases-loop_at
 decreases-loop_at l = 3 * l.depth
 
-abbrev pub invariant-block-loop-n : goal.invariant-block-loop-n
-invariant-block-loop-n l = (k : ℕ) × (length l.t - l.at ≤ k) × (block_at l.depth l.cur l.z l.t l.c l.from ≡ block_with (instr_at l.depth l.cur l.z l.t l.c) k l.at)
+abbrev pub invariant-block-loop-next : goal.invariant-block-loop-next
+invariant-block-loop-next l = block_at l.depth l.cur l.table.sizes l.table.bytes.now (closing_byte l.c) l.from ≡ block_at l.depth l.cur l.table.sizes l.table.bytes.now (closing_byte l.c) l.at
 
-abbrev pub decreases-block-loop-n : goal.decreases-block-loop-n
-decreases-block-loop-n l = length l.t - l.at
+abbrev pub decreases-block-loop-next : goal.decreases-block-loop-next
+decreases-block-loop-next l = length l.table.bytes.now - l.at
