@@ -13,7 +13,7 @@ ghost use Rattle.model.specs.theory.Words.{lows, join_words, within_words, settl
 pub fn larger(a: u8, b: u8) -> u8
     ensures { result ≡ max a b }
 {
-    if a < b { b } else { a }
+    a.max(b)
 }
 
 // A transient level made public.

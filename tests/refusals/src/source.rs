@@ -90,23 +90,58 @@ impl Sources {
     }
 }
 
-/// The last function that begins in a text, which is the start of src/MODULE.
+/// The last function that begins in a text, which is the start of src/MODULE. A method stands in its type's folder.
 fn function_at(module: &str, text: &str) -> Option<Function> {
     let lines: Vec<&str> = text.lines().collect();
     let at = lines.iter().rposition(|line| is_head(line))?;
     let name = lines[at].split("fn ").nth(1)?;
     let name = name.split(|letter: char| !(letter.is_alphanumeric() || letter == '_')).next()?;
     // The attributes stand on the lines right above.
-    let attributes = lines[..at].iter().rev().take_while(|line| line.starts_with("#["));
+    let above = lines[..at].iter().rev().map(|line| line.trim_start());
+    let attributes = above.take_while(|line| line.starts_with("#["));
     let cycle = attributes.filter_map(|line| line.strip_prefix("#[cycle(")?.split(')').next()).next();
-    let folder = match module.trim_end_matches(".rt") {
+    let block = if lines[at].starts_with(' ') {
+        lines[..at].iter().rev().find(|line| !line.starts_with(' ') && line.contains('{')).and_then(|line| block_name(line))
+    } else {
+        None
+    };
+    let module = match module.trim_end_matches(".rt") {
         "lib" | "main" => String::new(),
         module => module.to_string(),
     };
+    let mut parts = vec![module, block.unwrap_or_default()];
+    parts.retain(|part| !part.is_empty());
+    let folder = parts.join("/");
     Some(Function { folder, name: name.to_string(), cycle: cycle.map(str::to_string) })
 }
 
-/// `pub(crate) fn name(`, at the start of a line.
+/// `pub(crate) fn name(`, at the start of a line or, in a block, four letters on.
 fn is_head(line: &str) -> bool {
+    let line = line.strip_prefix("    ").unwrap_or(line);
     line.starts_with("fn ") || (line.starts_with("pub") && line.contains("fn "))
+}
+
+/// The folder of the methods in a block: `Table` of `impl<'a> Table<'a> {`, `KindTryFromU8` of `impl TryFrom<u8> for Kind {`.
+fn block_name(line: &str) -> Option<String> {
+    let rest = line.strip_prefix("impl")?.split('{').next()?;
+    let rest = match rest.strip_prefix('<') {
+        Some(inside) => inside.split_once('>')?.1,
+        None => rest,
+    };
+    let words = |text: &str| -> String { letters(text).map(capital).collect() };
+    Some(match rest.split_once(" for ") {
+        Some((of_trait, of_type)) => words(of_type) + &words(of_trait),
+        None => letters(rest).next()?.to_string(),
+    })
+}
+
+/// The names in a type, lifetimes aside.
+fn letters(text: &str) -> impl Iterator<Item = &str> {
+    let names = text.split(|letter: char| !(letter.is_alphanumeric() || "_'".contains(letter)));
+    names.filter(|name| !name.is_empty() && !name.starts_with('\''))
+}
+
+fn capital(name: &str) -> String {
+    let mut letters = name.chars();
+    letters.next().map_or(String::new(), |first| first.to_uppercase().chain(letters).collect())
 }

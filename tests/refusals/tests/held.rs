@@ -261,6 +261,27 @@ fn a_function_of_a_cycle_has_its_goals_in_the_cycle() {
 }
 
 #[test]
+fn a_method_has_its_goals_in_its_type() {
+    for (block, home) in [
+        ("impl Pair {", "pair/Pair/half"),
+        ("impl<'a> Pair<'a> {", "pair/Pair/half"),
+        ("impl TryFrom<u8> for Pair {", "pair/PairTryFromU8/half"),
+    ] {
+        let folder = std::env::temp_dir().join(format!("refusals-method-{}", std::process::id()));
+        sources("method");
+        let text = format!("{}\n{}\n    pub fn half(self) -> u8 {{\n        self.a / 2\n    }}\n}}\n", SOURCE, block);
+        fs::write(folder.join("src/pair.rt"), text).expect("a file");
+        let edit = |home: &str| {
+            let lines = "wrong: third\nfile: src/pair.rt\nold: self.a / 2\nnew: self.a / 3\nrefused: HOME returns\nwhy: half.\n";
+            two(&lines.replace("HOME", home))
+        };
+        assert!(judge::of_text(&edit(home), &mut Sources::of(&folder)).is_empty(), "{}", block);
+        let complaint = "third: pair/half returns is no goal of a function that it changes";
+        assert_eq!(judge::of_text(&edit("pair/half"), &mut Sources::of(&folder)), [complaint]);
+    }
+}
+
+#[test]
 fn a_proof_may_follow_the_names_of_its_code_and_nothing_more() {
     let of = |file: &str, old: &str, new: &str| {
         let change = format!("old: a + b\nnew: a * b\nfile: {}\nold: {}\nnew: {}\n", file, old, new);
