@@ -72,15 +72,26 @@ impl Kind {
     // The length of a record of this kind, the kind byte counted.
     #[tactic(auto, unfolding(format::specs::Format::code_length))]
     fn length(self) -> usize
-        ensures { (result ≡ code_length (kind_byte self)) × (result < 12) }
+        ensures { (result ≡ code_length (kind_byte self)) × (0 < result) × (result < 12) }
     {
         match self {
-            Kind::Init | Kind::Endif | Kind::Return => 1,
-            Kind::Update | Kind::Protect | Kind::Call | Kind::Else | Kind::Endwhile => 3,
-            Kind::Load | Kind::Store | Kind::If => 4,
-            Kind::Op | Kind::Select | Kind::LoadFixed | Kind::StoreFixed => 5,
             Kind::Const => 6,
+            Kind::Op => 5,
+            Kind::Select => 5,
+            Kind::Load => 4,
+            Kind::Store => 4,
+            Kind::Init => 1,
+            Kind::Update => 3,
+            Kind::Protect => 3,
+            Kind::Call => 3,
+            Kind::LoadFixed => 5,
+            Kind::StoreFixed => 5,
+            Kind::If => 4,
+            Kind::Else => 3,
+            Kind::Endif => 1,
             Kind::While => 11,
+            Kind::Endwhile => 3,
+            Kind::Return => 1,
         }
     }
 }
@@ -89,14 +100,51 @@ impl Kind {
 pub fn code_length(kind: u8) -> usize
     ensures { (result ≡ code_length kind) × (result < 12) }
 {
-    match Kind::of(kind) {
-        Some(k) => k.length(),
-        None => 0,
+    Kind::of(kind).map_or(0, Kind::length)
+}
+
+// The record due at `at`: an unknown kind is refused first, then a record cut short, then a field out of range.
+#[tactic(auto, using(crate::proofs::Laws::decode_by))]
+pub fn decode(table: &Table, at: usize) -> Result<(Record, usize), Refusal>
+    ensures { result ≡ decode_at table.now.sizes table.now.bytes.now at }
+{
+    if table.bytes.len() <= at {
+        return Err(Fault::CutShort.at(at));
+    }
+    let Some(kind) = Kind::of(table.bytes[at]) else {
+        return Err(Fault::UnknownKind.at(at));
+    };
+    if table.bytes.len() - at < kind.length() {
+        return Err(Fault::CutShort.at(at));
+    }
+    let fields = Fields { table: *table, at };
+    let record = fields.record(kind)?;
+    Ok((record, at + kind.length()))
+}
+
+// The record at a place, for loops over the code. Where none can be read, RETURN stands for it; from the table's end
+// on, the place itself is the next.
+#[tactic(auto, using(crate::proofs::Laws::met))]
+pub fn record_at(table: &Table, at: usize) -> Met
+    ensures { (result.record ≡ record_of table.now.sizes table.now.bytes.now at)
+        × (result.next ≡ next_of table.now.sizes table.now.bytes.now at) }
+{
+    if table.bytes.len() <= at {
+        return Met {
+            record: Record::Return,
+            next: at,
+        };
+    }
+    match decode(table, at) {
+        Ok((record, next)) => Met { record, next },
+        Err(_) => Met {
+            record: Record::Return,
+            next: at + 1,
+        },
     }
 }
 
-// The record at a place, once all its bytes are there. Each method but `record` and the readers of the kinds, below, reads
-// one field: i is the byte that it begins at, the kind being byte 0.
+// A record whose bytes are all there: the fields of each kind, tested in their order.
 #[derive(Clone, Copy)]
 struct Fields<'a> {
     table: Table<'a>,
@@ -104,6 +152,156 @@ struct Fields<'a> {
     ghost inside: { at < length table.bytes.now },
 }
 
+#[tactic(auto, unfolding(crate::specs::Kinds::fields_of))]
+impl Fields<'_> {
+    // The record, of this kind.
+    fn record(&self, kind: Kind) -> Result<Record, Refusal>
+        ensures { result ≡ fields_of (kind_byte kind) self.now.table.sizes self.now.table.bytes.now self.now.at }
+    {
+        match kind {
+            Kind::Const => self.read_const(),
+            Kind::Op => self.read_op(),
+            Kind::Select => self.read_select(),
+            Kind::Load => self.read_load(),
+            Kind::Store => self.read_store(),
+            Kind::Init => Ok(Record::Do(Simple::Init)),
+            Kind::Update => self.read_update(),
+            Kind::Protect => self.read_protect(),
+            Kind::Call => self.read_call(),
+            Kind::LoadFixed => self.read_load_fixed(),
+            Kind::StoreFixed => self.read_store_fixed(),
+            Kind::If => self.read_if(),
+            Kind::Else => Ok(Record::Else { to: self.place(1) }),
+            Kind::Endif => Ok(Record::Endif),
+            Kind::While => self.read_while(),
+            Kind::Endwhile => Ok(Record::Endwhile { to: self.place(1) }),
+            Kind::Return => Ok(Record::Return),
+        }
+    }
+
+    fn read_const(&self) -> Result<Record, Refusal>
+        ensures { result ≡ fields_of 0x10 self.now.table.sizes self.now.table.bytes.now self.now.at }
+    {
+        Ok(Record::Do(Simple::Const {
+            dest: self.register(1)?,
+            value: word_at(self.table.bytes, self.at + 2),
+        }))
+    }
+
+    fn read_op(&self) -> Result<Record, Refusal>
+        ensures { result ≡ fields_of 0x11 self.now.table.sizes self.now.table.bytes.now self.now.at }
+    {
+        Ok(Record::Do(Simple::Op {
+            dest: self.register(1)?,
+            op: self.operation(2)?,
+            left: self.register(3)?,
+            right: self.register(4)?,
+        }))
+    }
+
+    fn read_select(&self) -> Result<Record, Refusal>
+        ensures { result ≡ fields_of 0x12 self.now.table.sizes self.now.table.bytes.now self.now.at }
+    {
+        Ok(Record::Do(Simple::Select {
+            dest: self.register(1)?,
+            cond: self.register(2)?,
+            yes: self.register(3)?,
+            no: self.register(4)?,
+        }))
+    }
+
+    fn read_load(&self) -> Result<Record, Refusal>
+        ensures { result ≡ fields_of 0x13 self.now.table.sizes self.now.table.bytes.now self.now.at }
+    {
+        Ok(Record::Do(Simple::Load {
+            dest: self.register(1)?,
+            array: self.array(2)?,
+            index: self.register(3)?,
+        }))
+    }
+
+    fn read_store(&self) -> Result<Record, Refusal>
+        ensures { result ≡ fields_of 0x14 self.now.table.sizes self.now.table.bytes.now self.now.at }
+    {
+        Ok(Record::Do(Simple::Store {
+            array: self.array(1)?,
+            index: self.register(2)?,
+            source: self.register(3)?,
+        }))
+    }
+
+    fn read_update(&self) -> Result<Record, Refusal>
+        ensures { result ≡ fields_of 0x16 self.now.table.sizes self.now.table.bytes.now self.now.at }
+    {
+        Ok(Record::Do(Simple::Update {
+            register: self.register(1)?,
+            sense: self.bit(2)?,
+        }))
+    }
+
+    fn read_protect(&self) -> Result<Record, Refusal>
+        ensures { result ≡ fields_of 0x17 self.now.table.sizes self.now.table.bytes.now self.now.at }
+    {
+        Ok(Record::Do(Simple::Protect {
+            dest: self.register(1)?,
+            source: self.register(2)?,
+        }))
+    }
+
+    fn read_call(&self) -> Result<Record, Refusal>
+        ensures { result ≡ fields_of 0x18 self.now.table.sizes self.now.table.bytes.now self.now.at }
+    {
+        Ok(Record::Call {
+            function: self.below(1, self.table.sizes.functions)?,
+            mark: self.bit(2)?,
+        })
+    }
+
+    fn read_load_fixed(&self) -> Result<Record, Refusal>
+        ensures { result ≡ fields_of 0x1B self.now.table.sizes self.now.table.bytes.now self.now.at }
+    {
+        let dest = self.register(1)?;
+        let array = self.array(2)?;
+        let index = self.index(array, 3)?;
+        Ok(Record::Do(Simple::LoadFixed { dest, array, index }))
+    }
+
+    fn read_store_fixed(&self) -> Result<Record, Refusal>
+        ensures { result ≡ fields_of 0x1C self.now.table.sizes self.now.table.bytes.now self.now.at }
+    {
+        let array = self.array(1)?;
+        let index = self.index(array, 2)?;
+        let source = self.register(4)?;
+        Ok(Record::Do(Simple::StoreFixed {
+            array,
+            index,
+            source,
+        }))
+    }
+
+    fn read_if(&self) -> Result<Record, Refusal>
+        ensures { result ≡ fields_of 0x20 self.now.table.sizes self.now.table.bytes.now self.now.at }
+    {
+        Ok(Record::If {
+            register: self.register(1)?,
+            to: self.place(2),
+        })
+    }
+
+    fn read_while(&self) -> Result<Record, Refusal>
+        ensures { result ≡ fields_of 0x23 self.now.table.sizes self.now.table.bytes.now self.now.at }
+    {
+        let register = self.register(1)?;
+        let to = self.place(2);
+        let env = packed_at(self.table.bytes, self.at + 4);
+        if !packed_in(self.table.sizes, env) {
+            return Err(Fault::OutOfRange.at(self.at));
+        }
+        Ok(Record::While { register, to, env })
+    }
+}
+
+// One field: byte i of the record, the kind being byte 0, or the bytes from there on.
 impl Fields<'_> {
     // A byte that must be below n.
     fn below(&self, i: u8, n: u8) -> Result<u8, Refusal>
@@ -164,205 +362,5 @@ impl Fields<'_> {
             return Err(Fault::OutOfRange.at(self.at));
         }
         Ok(index as u16)
-    }
-
-    #[tactic(auto, unfolding(crate::specs::Kinds::fields_of))]
-    fn constant(&self) -> Result<Record, Refusal>
-        ensures { result ≡ fields_of 0x10 self.now.table.sizes self.now.table.bytes.now self.now.at }
-    {
-        Ok(Record::Do(Simple::Const {
-            dest: self.register(1)?,
-            value: word_at(self.table.bytes, self.at + 2),
-        }))
-    }
-
-    #[tactic(auto, unfolding(crate::specs::Kinds::fields_of))]
-    fn op(&self) -> Result<Record, Refusal>
-        ensures { result ≡ fields_of 0x11 self.now.table.sizes self.now.table.bytes.now self.now.at }
-    {
-        Ok(Record::Do(Simple::Op {
-            dest: self.register(1)?,
-            op: self.operation(2)?,
-            left: self.register(3)?,
-            right: self.register(4)?,
-        }))
-    }
-
-    #[tactic(auto, unfolding(crate::specs::Kinds::fields_of))]
-    fn select(&self) -> Result<Record, Refusal>
-        ensures { result ≡ fields_of 0x12 self.now.table.sizes self.now.table.bytes.now self.now.at }
-    {
-        Ok(Record::Do(Simple::Select {
-            dest: self.register(1)?,
-            cond: self.register(2)?,
-            yes: self.register(3)?,
-            no: self.register(4)?,
-        }))
-    }
-
-    #[tactic(auto, unfolding(crate::specs::Kinds::fields_of))]
-    fn load(&self) -> Result<Record, Refusal>
-        ensures { result ≡ fields_of 0x13 self.now.table.sizes self.now.table.bytes.now self.now.at }
-    {
-        Ok(Record::Do(Simple::Load {
-            dest: self.register(1)?,
-            array: self.array(2)?,
-            index: self.register(3)?,
-        }))
-    }
-
-    #[tactic(auto, unfolding(crate::specs::Kinds::fields_of))]
-    fn store(&self) -> Result<Record, Refusal>
-        ensures { result ≡ fields_of 0x14 self.now.table.sizes self.now.table.bytes.now self.now.at }
-    {
-        Ok(Record::Do(Simple::Store {
-            array: self.array(1)?,
-            index: self.register(2)?,
-            source: self.register(3)?,
-        }))
-    }
-
-    #[tactic(auto, unfolding(crate::specs::Kinds::fields_of))]
-    fn update(&self) -> Result<Record, Refusal>
-        ensures { result ≡ fields_of 0x16 self.now.table.sizes self.now.table.bytes.now self.now.at }
-    {
-        Ok(Record::Do(Simple::Update {
-            register: self.register(1)?,
-            sense: self.bit(2)?,
-        }))
-    }
-
-    #[tactic(auto, unfolding(crate::specs::Kinds::fields_of))]
-    fn protect(&self) -> Result<Record, Refusal>
-        ensures { result ≡ fields_of 0x17 self.now.table.sizes self.now.table.bytes.now self.now.at }
-    {
-        Ok(Record::Do(Simple::Protect {
-            dest: self.register(1)?,
-            source: self.register(2)?,
-        }))
-    }
-
-    #[tactic(auto, unfolding(crate::specs::Kinds::fields_of))]
-    fn call(&self) -> Result<Record, Refusal>
-        ensures { result ≡ fields_of 0x18 self.now.table.sizes self.now.table.bytes.now self.now.at }
-    {
-        Ok(Record::Call {
-            function: self.below(1, self.table.sizes.functions)?,
-            mark: self.bit(2)?,
-        })
-    }
-
-    #[tactic(auto, unfolding(crate::specs::Kinds::fields_of))]
-    fn load_fixed(&self) -> Result<Record, Refusal>
-        ensures { result ≡ fields_of 0x1B self.now.table.sizes self.now.table.bytes.now self.now.at }
-    {
-        let dest = self.register(1)?;
-        let array = self.array(2)?;
-        let index = self.index(array, 3)?;
-        Ok(Record::Do(Simple::LoadFixed { dest, array, index }))
-    }
-
-    #[tactic(auto, unfolding(crate::specs::Kinds::fields_of))]
-    fn store_fixed(&self) -> Result<Record, Refusal>
-        ensures { result ≡ fields_of 0x1C self.now.table.sizes self.now.table.bytes.now self.now.at }
-    {
-        let array = self.array(1)?;
-        let index = self.index(array, 2)?;
-        let source = self.register(4)?;
-        Ok(Record::Do(Simple::StoreFixed {
-            array,
-            index,
-            source,
-        }))
-    }
-
-    #[tactic(auto, unfolding(crate::specs::Kinds::fields_of))]
-    fn branch(&self) -> Result<Record, Refusal>
-        ensures { result ≡ fields_of 0x20 self.now.table.sizes self.now.table.bytes.now self.now.at }
-    {
-        Ok(Record::If {
-            register: self.register(1)?,
-            to: self.place(2),
-        })
-    }
-
-    #[tactic(auto, unfolding(crate::specs::Kinds::fields_of))]
-    fn head_of_loop(&self) -> Result<Record, Refusal>
-        ensures { result ≡ fields_of 0x23 self.now.table.sizes self.now.table.bytes.now self.now.at }
-    {
-        let register = self.register(1)?;
-        let to = self.place(2);
-        let env = packed_at(self.table.bytes, self.at + 4);
-        if !packed_in(self.table.sizes, env) {
-            return Err(Fault::OutOfRange.at(self.at));
-        }
-        Ok(Record::While { register, to, env })
-    }
-
-    // The record, of this kind.
-    #[tactic(auto, unfolding(crate::specs::Kinds::fields_of))]
-    fn record(&self, kind: Kind) -> Result<Record, Refusal>
-        ensures { result ≡ fields_of (kind_byte kind) self.now.table.sizes self.now.table.bytes.now self.now.at }
-    {
-        match kind {
-            Kind::Const => self.constant(),
-            Kind::Op => self.op(),
-            Kind::Select => self.select(),
-            Kind::Load => self.load(),
-            Kind::Store => self.store(),
-            Kind::Init => Ok(Record::Do(Simple::Init)),
-            Kind::Update => self.update(),
-            Kind::Protect => self.protect(),
-            Kind::Call => self.call(),
-            Kind::LoadFixed => self.load_fixed(),
-            Kind::StoreFixed => self.store_fixed(),
-            Kind::If => self.branch(),
-            Kind::Else => Ok(Record::Else { to: self.place(1) }),
-            Kind::Endif => Ok(Record::Endif),
-            Kind::While => self.head_of_loop(),
-            Kind::Endwhile => Ok(Record::Endwhile { to: self.place(1) }),
-            Kind::Return => Ok(Record::Return),
-        }
-    }
-}
-
-// The record due at `at`: an unknown kind is refused first, then a record cut short, then a field out of range.
-#[tactic(auto, using(crate::proofs::Laws::decode_past, crate::proofs::Laws::decode_none, crate::proofs::Laws::decode_short, crate::proofs::Laws::decode_whole,))]
-pub fn decode(table: &Table, at: usize) -> Result<(Record, usize), Refusal>
-    ensures { result ≡ decode_at table.now.sizes table.now.bytes.now at }
-{
-    if table.bytes.len() <= at {
-        return Err(Fault::CutShort.at(at));
-    }
-    let Some(kind) = Kind::of(table.bytes[at]) else {
-        return Err(Fault::UnknownKind.at(at));
-    };
-    if table.bytes.len() - at < kind.length() {
-        return Err(Fault::CutShort.at(at));
-    }
-    let fields = Fields { table: *table, at };
-    let record = fields.record(kind)?;
-    Ok((record, at + kind.length()))
-}
-
-// The record at a place, for loops over the code. Where none can be read, RETURN stands for it; from the table's end
-// on, the place itself is the next.
-#[tactic(auto, using(crate::proofs::Laws::record_past, crate::proofs::Laws::next_got, format::specs::Layout::record_got, format::specs::Layout::record_bad, format::specs::Layout::next_on, format::specs::Layout::next_end,))]
-pub fn record_at(table: &Table, at: usize) -> Met
-    ensures { (result.record ≡ record_of table.now.sizes table.now.bytes.now at)
-        × (result.next ≡ next_of table.now.sizes table.now.bytes.now at) }
-{
-    if table.bytes.len() <= at {
-        return Met {
-            record: Record::Return,
-            next: at,
-        };
-    }
-    match decode(table, at) {
-        Ok((record, next)) => Met { record, next },
-        Err(_) => Met {
-            record: Record::Return,
-            next: at + 1,
-        },
     }
 }
