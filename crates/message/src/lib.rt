@@ -2,7 +2,10 @@
 #![tactic(auto)]
 
 ghost use Rattle.std.specs.Prelude.{◌≡◌, ℕ, ◌+◌, ◌-◌, ◌≤◌, min, length, take, drop};
+ghost use Rattle.model.specs.Numbers.{fault_number};
 ghost use Rattle.message.specs.Shown.{kind_length, directive_length, table_count, part_of};
+
+use model::Fault;
 
 // A part of the table or of the directive list: where it begins, and how many bytes it has.
 #[derive(Clone, Copy)]
@@ -11,20 +14,11 @@ pub enum Part {
     List(usize, usize),
 }
 
-// How many bytes stand from p on.
-fn rest(s: &[u8], p: usize) -> usize
-    ensures { result ≡ length s.now - p }
+// A start and a count, cut off where the slice ends.
+fn clipped(s: &[u8], start: usize, count: usize) -> (usize, usize)
+    ensures { result ≡ (min start (length s.now), min count (length s.now - start)) }
 {
-    if p <= s.len() {
-        return s.len() - p;
-    }
-    0
-}
-
-fn smaller(a: usize, b: usize) -> usize
-    ensures { result ≡ min a b }
-{
-    if a < b { a } else { b }
+    (start.min(s.len()), count.min(s.len().saturating_sub(start)))
 }
 
 // The length of a record, by its kind.
@@ -51,42 +45,41 @@ fn directive_length(kind: u8) -> usize
     }
 }
 
-fn table_count(t: &[u8], number: u8, p: usize) -> usize
-    ensures { result ≡ table_count t.now number p }
+// How many bytes show a fault that lies in the table.
+fn table_count(t: &[u8], fault: Fault, p: usize) -> usize
+    ensures { result ≡ table_count t.now (fault_number fault) p }
 {
-    match number {
-        2 => rest(t, p),
-        3 => 1,
-        9 => rest(t, p),
+    match fault {
+        Fault::CutShort => t.len().saturating_sub(p),
+        Fault::UnknownKind => 1,
+        Fault::BytesAfter => t.len().saturating_sub(p),
         _ => kind_length(format::byte_at(t, p)),
     }
 }
 
-// Which slice, from where, and how many bytes.
+// Which slice, from where, and how many bytes. What is no fault's number (a stop's, or any) shows nothing.
+#[tactic(auto, unfolding(crate::specs::Shown::part_of))]
 pub fn part_of(table: &[u8], list: &[u8], number: u8, place: usize) -> Part
     ensures { result ≡ part_of table.now list.now number place }
 {
-    if number < 2 {
+    let Ok(fault) = Fault::try_from(number) else {
         return Part::Table(0, 0);
+    };
+    match fault {
+        Fault::TooLong | Fault::WrongLengths => Part::Table(0, 0),
+        Fault::BadList => {
+            if 16384 < list.len() {
+                return Part::Table(0, 0);
+            }
+            let count = directive_length(format::byte_at(list, place));
+            let (start, count) = clipped(list, place, count);
+            Part::List(start, count)
+        }
+        _ => {
+            let (start, count) = clipped(table, place, table_count(table, fault, place));
+            Part::Table(start, count)
+        }
     }
-    if number <= 14 {
-        let count = table_count(table, number, place);
-        return Part::Table(
-            smaller(place, table.len()),
-            smaller(count, rest(table, place)),
-        );
-    }
-    if number != 16 {
-        return Part::Table(0, 0);
-    }
-    if 16384 < list.len() {
-        return Part::Table(0, 0);
-    }
-    let count = directive_length(format::byte_at(list, place));
-    Part::List(
-        smaller(place, list.len()),
-        smaller(count, rest(list, place)),
-    )
 }
 
 fn slice_of<'a>(s: &'a [u8], start: usize, count: usize) -> &'a [u8]

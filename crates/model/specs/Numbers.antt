@@ -1,8 +1,9 @@
 -- Document 01, "Numbers given back" and "The machine": the number of each fault and of each stop; and of each operation.
-use Rattle.std.specs.Prelude.{ℕ, eqb, Result, Ok, Err}
+use Rattle.std.specs.Prelude.{ℕ, ◌≡◌, ◌<◌, ◌⊎◌, eqb, Result, Ok, Err, MatchResult}
 use Rattle.model.specs.Tests.{pick}
 use Rattle.model.specs.declared.Fault.{Fault}
 use Rattle.model.specs.declared.Fault.TheVariants.{TooLong, CutShort, UnknownKind, OutOfRange, WrongPlace, TooDeep, NotLower, EntryStatus, BytesAfter, NotPublic, WrongStatus, NotWithinLoop, NotWithinIn, NotWithinOut, WrongLengths, BadList}
+use Rattle.model.specs.declared.NoFault.{NoFault}
 use Rattle.model.specs.declared.Refusal.{Refusal}
 use Rattle.model.specs.declared.Stop.{Stop}
 use Rattle.model.specs.declared.Stop.TheVariants.{ListEnded, Returned, WrongDirective, InitAstray, OutOfBounds, NoSuchPlace, NoRoom}
@@ -26,6 +27,10 @@ fault_number NotWithinIn = 13
 fault_number NotWithinOut = 14
 fault_number WrongLengths = 15
 fault_number BadList = 16
+
+-- the fault of a number, or none: 0, and all above 16
+abbrev pub Numbered : ℕ → Result Fault NoFault → Type 0
+Numbered n r = MatchResult r (λ f. fault_number f ≡ n) (λ e. (e.0 ≡ n) × ((n < 1) ⊎ (16 < n)))
 
 -- a fault, and its place
 abbrev pub refusal : Fault → ℕ → Refusal

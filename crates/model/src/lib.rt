@@ -3,7 +3,7 @@
 #![tactic(auto)]
 
 ghost use Rattle.std.specs.Prelude.{◌≡◌};
-ghost use Rattle.model.specs.Numbers.{fault_number, stop_number, refusal};
+ghost use Rattle.model.specs.Numbers.{fault_number, stop_number, refusal, Numbered};
 
 // What is at fault, in 01's order. As numbers: 1 to 16.
 #[derive(Clone, Copy, Debug, PartialEq, Eq)]
@@ -38,6 +38,38 @@ impl Fault {
         ensures { result ≡ fault_number self }
     {
         self as u8
+    }
+}
+
+// A number that no fault has.
+#[derive(Clone, Copy, Debug, PartialEq, Eq)]
+pub struct NoFault(pub u8);
+
+impl TryFrom<u8> for Fault {
+    type Error = NoFault;
+
+    ghost try_from_gives = { Numbered };
+
+    fn try_from(number: u8) -> Result<Fault, NoFault> {
+        match number {
+            1 => Ok(Fault::TooLong),
+            2 => Ok(Fault::CutShort),
+            3 => Ok(Fault::UnknownKind),
+            4 => Ok(Fault::OutOfRange),
+            5 => Ok(Fault::WrongPlace),
+            6 => Ok(Fault::TooDeep),
+            7 => Ok(Fault::NotLower),
+            8 => Ok(Fault::EntryStatus),
+            9 => Ok(Fault::BytesAfter),
+            10 => Ok(Fault::NotPublic),
+            11 => Ok(Fault::WrongStatus),
+            12 => Ok(Fault::NotWithinLoop),
+            13 => Ok(Fault::NotWithinIn),
+            14 => Ok(Fault::NotWithinOut),
+            15 => Ok(Fault::WrongLengths),
+            16 => Ok(Fault::BadList),
+            _ => Err(NoFault(number)),
+        }
     }
 }
 
