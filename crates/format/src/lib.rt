@@ -23,7 +23,7 @@ pub fn place_at(t: &[u8], p: usize) -> usize
     ensures { (result ≡ word16 t.now p) × (result < 65536) }
 {
     if p < t.len() {
-        return usize::from(t[p]) + usize::from(byte_at(t, p + 1)) * 256;
+        return usize::from(u16::from_le_bytes([t[p], byte_at(t, p + 1)]));
     }
     0
 }
@@ -42,10 +42,12 @@ fn four(t: &[u8], p: usize) -> u32
     requires { p < 18446744073709551612 }
     ensures { result ≡ word32 t.now p }
 {
-    u32::from(byte_at(t, p))
-        + u32::from(byte_at(t, p + 1)) * 256
-        + u32::from(byte_at(t, p + 2)) * 65536
-        + u32::from(byte_at(t, p + 3)) * 16777216
+    u32::from_le_bytes([
+        byte_at(t, p),
+        byte_at(t, p + 1),
+        byte_at(t, p + 2),
+        byte_at(t, p + 3),
+    ])
 }
 
 // Seven bytes: status, registers, arrays.
