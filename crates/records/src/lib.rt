@@ -103,7 +103,7 @@ pub fn code_length(kind: u8) -> usize
     Kind::of(kind).map_or(0, Kind::length)
 }
 
-// The record due at `at`: an unknown kind is refused first, then a record cut short, then a field out of range.
+// The record due at `at`. Refused, in this order: an unknown kind, a record cut short, a field out of range.
 #[tactic(auto, using(crate::proofs::Laws::decode_by))]
 pub fn decode(table: &Table, at: usize) -> Result<(Record, usize), Refusal>
     ensures { result ≡ decode_at table.now.sizes table.now.bytes.now at }
@@ -154,7 +154,7 @@ struct Fields<'a> {
 
 #[tactic(auto, unfolding(crate::specs::Kinds::fields_of))]
 impl Fields<'_> {
-    // The record, of this kind.
+    // The record, which is of this kind.
     fn record(&self, kind: Kind) -> Result<Record, Refusal>
         ensures { result ≡ fields_of (kind_byte kind) self.now.table.sizes self.now.table.bytes.now self.now.at }
     {
