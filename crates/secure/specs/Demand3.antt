@@ -6,7 +6,7 @@
 --
 -- check_at is what typing::check answers, run_at what machine::run answers and leaves behind: the definitions that
 -- their contracts cite.
-use Rattle.std.specs.Prelude.{ℕ, ◌+◌, ◌≤◌, ◌<◌, ◌≡◌, refl, false, List, length, get_or}
+use Rattle.std.specs.Prelude.{ℕ, ◌+◌, ◌≤◌, ◌<◌, ◌≡◌, refl, false, List, length, get_or, Result, Ok, Err}
 use Rattle.std.proofs.Common.{sym, ap, subst, ◌∙◌}
 use Rattle.std.proofs.lemmas.List.Edits.{sets}
 use borrow.Author.Tests.{eq-eqb}
@@ -21,9 +21,7 @@ use Rattle.format.specs.Layout.{sizes_of, table_of}
 use Rattle.reading.specs.theory.Known.{known}
 use Rattle.typing.specs.Check.{check_at}
 use Rattle.typing.specs.Checked.{Readable, Pass, passes_exactly}
-use Rattle.machine.specs.declared.Listed.{Listed}
-use Rattle.machine.specs.declared.Listed.TheVariants.{Good}
-use Rattle.machine.specs.declared.Outcome.TheVariants.{Refused, Stopped}
+use Rattle.model.specs.declared.Refusal.{Refusal}
 use Rattle.machine.specs.Directives.{list_at, directives_of, all_bytes}
 use Rattle.machine.specs.Runs.{Ran, ran, total, ran_from, started, on_listed, run_at}
 
@@ -43,11 +41,11 @@ pub record Starts (t : List ℕ) (regs₁ mem₁ regs₂ mem₂ : List ℕ) : Ty
 -- Two answers, with what is left of the lent buffers obs₁ and obs₂: both refuse alike and leave all as lent; or both
 -- stop for the same reason, at the same place, after the same number of steps, having written the same bytes
 abbrev pub SameRan : (obs₁ obs₂ : List ℕ) → Ran → Ran → Type 0
-SameRan obs₁ obs₂ (ran (Refused n p) r₁ m₁ o₁) (ran (Refused k q) r₂ m₂ o₂) = (n ≡ k) × (p ≡ q) × (o₁ ≡ obs₁) × (o₂ ≡ obs₂)
-SameRan obs₁ obs₂ (ran (Refused n p) r₁ m₁ o₁) (ran (Stopped s) r₂ m₂ o₂) = ⊥
-SameRan obs₁ obs₂ (ran (Stopped s) r₁ m₁ o₁) (ran (Refused k q) r₂ m₂ o₂) = ⊥
-SameRan obs₁ obs₂ (ran (Stopped s) r₁ m₁ o₁) (ran (Stopped u) r₂ m₂ o₂) =
-    (s.number ≡ u.number) × (s.place ≡ u.place) × (s.steps ≡ u.steps) × (s.mis ≡ u.mis) × ((bytes : List ℕ) × (o₁ ≡ sets obs₁ 0 bytes) × (o₂ ≡ sets obs₂ 0 bytes))
+SameRan obs₁ obs₂ (ran (Err e) r₁ m₁ o₁) (ran (Err f) r₂ m₂ o₂) = (e.fault ≡ f.fault) × (e.place ≡ f.place) × (o₁ ≡ obs₁) × (o₂ ≡ obs₂)
+SameRan obs₁ obs₂ (ran (Err e) r₁ m₁ o₁) (ran (Ok s) r₂ m₂ o₂) = ⊥
+SameRan obs₁ obs₂ (ran (Ok s) r₁ m₁ o₁) (ran (Err f) r₂ m₂ o₂) = ⊥
+SameRan obs₁ obs₂ (ran (Ok s) r₁ m₁ o₁) (ran (Ok u) r₂ m₂ o₂) =
+    (s.stop ≡ u.stop) × (s.place ≡ u.place) × (s.steps ≡ u.steps) × (s.mis ≡ u.mis) × ((bytes : List ℕ) × (o₁ ≡ sets obs₁ 0 bytes) × (o₂ ≡ sets obs₂ 0 bytes))
 
 -- ---- DEMAND 3, of a notion of passing
 abbrev pub Demand3 : (List ℕ → Type 0) → Type 0

@@ -14,15 +14,14 @@ use Rattle.model.specs.Before.{typing_before}
 use Rattle.model.specs.Faults.{FirstFault, on_the_way, past, fails}
 use Rattle.model.specs.Walk.{type_block, type_instr, type_function}
 use Rattle.model.proofs.theory.Passes.{past_single}
-use Rattle.model.specs.Decide.{number_of}
+use Rattle.model.specs.Decide.{record_fault}
 use Rattle.model.specs.Typing.{type_from}
 use Rattle.format.specs.Format.{row_at, decode_at, words_from}
 use Rattle.format.specs.Head.{sizes_at, array_at, signature_at, arrays_at, signatures_at}
 use Rattle.format.specs.Layout.{record_of, return_of, table_of}
 use Rattle.reading.specs.Reading.{allowed, record_at, call_at, if_with, while_with, block_with, instr_at, block_at, function_at, functions_at, parts_at, read_at}
-use Rattle.typing.specs.Check.{check_at}
+use Rattle.typing.specs.Check.{accepted, check_at}
 use Rattle.typing.specs.Before.{PassedBefore}
-use Rattle.typing.specs.declared.Verdict.TheVariants.{Accepted}
 
 abbrev pub by_protect : List ℕ
 by_protect = 1 ∷ 3 ∷ 3 ∷ 1 ∷ 2 ∷ 2 ∷ 0 ∷ 2 ∷ 4 ∷ 0 ∷ 2 ∷ 1 ∷ 0 ∷ 3 ∷ 30 ∷ 0 ∷ 0 ∷ 21 ∷ 0 ∷ 0 ∷ 0 ∷ 41 ∷ 0 ∷ 0 ∷ 40 ∷ 0 ∷ 0 ∷ 0 ∷ 41 ∷ 0 ∷ 21 ∷ 16 ∷ 2 ∷ 0 ∷ 0 ∷ 0 ∷ 0 ∷ 27 ∷ 0 ∷ 0 ∷ 0 ∷ 0 ∷ 23 ∷ 0 ∷ 0 ∷ 19 ∷ 1 ∷ 1 ∷ 0 ∷ 17 ∷ 2 ∷ 0 ∷ 2 ∷ 1 ∷ 27 ∷ 0 ∷ 0 ∷ 1 ∷ 0 ∷ 23 ∷ 0 ∷ 0 ∷ 19 ∷ 1 ∷ 1 ∷ 0 ∷ 17 ∷ 2 ∷ 0 ∷ 2 ∷ 1 ∷ 28 ∷ 2 ∷ 0 ∷ 0 ∷ 2 ∷ 37 ∷ []
@@ -31,7 +30,7 @@ abbrev pub by_init : List ℕ
 by_init = 1 ∷ 3 ∷ 3 ∷ 1 ∷ 2 ∷ 2 ∷ 0 ∷ 2 ∷ 4 ∷ 0 ∷ 2 ∷ 1 ∷ 0 ∷ 3 ∷ 30 ∷ 0 ∷ 0 ∷ 21 ∷ 0 ∷ 0 ∷ 0 ∷ 41 ∷ 0 ∷ 0 ∷ 40 ∷ 0 ∷ 0 ∷ 0 ∷ 41 ∷ 0 ∷ 21 ∷ 16 ∷ 2 ∷ 0 ∷ 0 ∷ 0 ∷ 0 ∷ 27 ∷ 0 ∷ 0 ∷ 0 ∷ 0 ∷ 19 ∷ 1 ∷ 1 ∷ 0 ∷ 17 ∷ 2 ∷ 0 ∷ 2 ∷ 1 ∷ 27 ∷ 0 ∷ 0 ∷ 1 ∷ 0 ∷ 19 ∷ 1 ∷ 1 ∷ 0 ∷ 17 ∷ 2 ∷ 0 ∷ 2 ∷ 1 ∷ 28 ∷ 2 ∷ 0 ∷ 0 ∷ 2 ∷ 37 ∷ []
 
 -- NOW both pass
-pub passes : (check_at by_protect ≡ Accepted 1 77) × (check_at by_init ≡ Accepted 1 71)
+pub passes : (check_at by_protect ≡ accepted 1 77) × (check_at by_init ≡ accepted 1 71)
 unfolding below slot levels_in packed_in join_status same_status within kill guard_status call_status settle beside row_at decode_at sizes_at array_at signature_at arrays_at signatures_at words_from record_of return_of allowed record_at call_at if_with while_with block_with instr_at block_at function_at functions_at parts_at read_at type_block type_instr type_function type_from check_at
 passes = (refl, refl)
 
@@ -57,7 +56,7 @@ abbrev T : Table
 T = table_of by_init
 
 -- BEFORE, without them, its first fault was the LOAD at 42: the index is transient
-pub init_before : FirstFault T (typing_before T) number_of 10 42
+pub init_before : FirstFault T (typing_before T) record_fault NotPublic 42
 unfolding below slot kill settle row_at decode_at words_from record_of return_of
 init_before = record {
   function = 0;

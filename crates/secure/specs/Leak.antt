@@ -24,10 +24,9 @@ use Rattle.format.specs.Layout.{record_of, return_of, table_of}
 use Rattle.reading.specs.Reading.{allowed, record_at, call_at, if_with, while_with, block_with, instr_at, block_at, function_at, functions_at, parts_at, read_at}
 use Rattle.typing.specs.Check.{check_at}
 use Rattle.typing.specs.Checked.{Readable}
-use Rattle.typing.specs.declared.Verdict.TheVariants.{Refused}
+use Rattle.model.specs.Numbers.{refusal}
 use Rattle.machine.specs.Directives.{branch_at, stray_at, back_at, directive_at, list_from, list_at, directives_from, all_bytes}
 use Rattle.machine.specs.Runs.{Ran, ran, total, run_at}
-use Rattle.machine.specs.declared.Outcome.TheVariants.{Stopped}
 use Rattle.secure.specs.Demand3.{Starts, SameRan, Demand3}
 
 -- ---- THE WRONG RULE: 01's, but that a STORE is typed as STORE FIXED is
@@ -56,7 +55,7 @@ abbrev pub leak : List ℕ
 leak = 1 ∷ 2 ∷ 2 ∷ 1 ∷ 2 ∷ 1 ∷ 0 ∷ 2 ∷ 1 ∷ 0 ∷ 3 ∷ 27 ∷ 0 ∷ 0 ∷ 8 ∷ 0 ∷ 0 ∷ 0 ∷ 0 ∷ 0 ∷ 0 ∷ 10 ∷ 0 ∷ 0 ∷ 0 ∷ 6 ∷ 0 ∷ 32 ∷ 0 ∷ 31 ∷ 0 ∷ 33 ∷ 47 ∷ 0 ∷ 20 ∷ 0 ∷ 0 ∷ 1 ∷ 27 ∷ 0 ∷ 1 ∷ 0 ∷ 0 ∷ 19 ∷ 0 ∷ 0 ∷ 0 ∷ 34 ∷ 37 ∷ []
 
 -- the check refuses it: the LOAD's index is transient
-pub refused : check_at leak ≡ Refused 10 43
+pub refused : check_at leak ≡ Err (refusal NotPublic 43)
 unfolding below slot levels_in packed_in join_status same_status within kill guard_status call_status settle beside row_at decode_at sizes_at array_at signature_at arrays_at signatures_at words_from record_of return_of allowed record_at call_at if_with while_with block_with instr_at block_at function_at functions_at parts_at read_at type_block type_instr type_function type_from check_at
 refused = refl
 
@@ -78,7 +77,7 @@ abbrev pub leaked : ℕ → Ran
 leaked secret = run_at leak (registers secret) memory dirs room
 
 abbrev pub Shows : ℕ → Type 0
-Shows secret = leaked secret ≡ ran (Stopped (record { number = 21; place = 48; steps = 5; mis = true; masked = false })) (0 ∷ secret ∷ []) (0 ∷ secret ∷ [])
+Shows secret = leaked secret ≡ ran (Ok (record { stop = Returned; place = 48; steps = 5; mis = true; masked = false })) (0 ∷ secret ∷ []) (0 ∷ secret ∷ [])
     (113 ∷ 1 ∷ 114 ∷ 0 ∷ 1 ∷ 0 ∷ 0 ∷ 0 ∷ 114 ∷ 1 ∷ 0 ∷ 0 ∷ 0 ∷ 0 ∷ 114 ∷ 0 ∷ secret ∷ 0 ∷ 0 ∷ 0 ∷ 112 ∷ [])
 
 pub both_show : Shows 5 × Shows 6

@@ -5,21 +5,20 @@
 -- the other public functions (of format, head, layout, records, message::part_of, report::verdict_line, the exported
 -- check and message) are equations between each part of the answer, or a lent slice afterwards, and a value that the
 -- arguments fix: one_of is for each such part.
-use Rattle.std.specs.Prelude.{ℕ, ◌≡◌, List}
+use Rattle.std.specs.Prelude.{ℕ, ◌≡◌, List, Result}
 use Rattle.std.proofs.Common.{sym, ap, ◌∙◌}
 use Rattle.reading.specs.Reading.{read_at}
-use Rattle.reading.specs.declared.Answer.{Answer}
-use Rattle.typing.specs.Check.{check_at}
-use Rattle.typing.specs.declared.Verdict.{Verdict}
-use Rattle.machine.specs.declared.Outcome.{Outcome}
-use Rattle.machine.specs.Runs.{Ran, ran, run_at}
+use Rattle.model.specs.declared.Refusal.{Refusal}
+use Rattle.model.specs.declared.Sizes.{Sizes}
+use Rattle.typing.specs.Check.{Verdict, check_at}
+use Rattle.machine.specs.Runs.{Outcome, Ran, ran, run_at}
 
 -- an answer, or a lent slice afterwards, that a contract equates with a value
 pub one_of : {A : Type 0} (value a b : A) → a ≡ value → b ≡ value → a ≡ b
 one_of value a b x y = x ∙ sym y
 
 -- reading::read
-pub one_reading : (t : List ℕ) (a b : Answer) → a ≡ read_at t → b ≡ read_at t → a ≡ b
+pub one_reading : (t : List ℕ) (a b : Result Sizes Refusal) → a ≡ read_at t → b ≡ read_at t → a ≡ b
 one_reading t a b = one_of (read_at t) a b
 
 -- typing::check
