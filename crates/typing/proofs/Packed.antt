@@ -3,12 +3,16 @@ use Prim.Native.Nat.{ℕ, ◌+◌, ◌%◌, ◌^◌, ◌<◌, ◌≤◌, max, mi
 use native.Mathlib.Omega.{arith}
 use native.Mathlib.Nat.{mod-eq_of_lt}
 use mathlib.Core.Path.{◌≡◌, refl, sym, ap, ◌∙◌}
-use mathlib.Core.Bool.{Bool, true, false}
+use mathlib.Core.Bool.{Bool, true, false, ◌&&◌}
+use mathlib.Core.List.{[], ◌∷◌}
 use lib.Dec.{leb, ltb}
 use lib.Pow.{pow_mono}
 use borrow.Author.Tests.{lt-ltb}
-use Rattle.model.specs.Tests.{pick, put, pick_ind}
-use Rattle.model.specs.Levels.{levels_within}
+use Rattle.model.specs.Tests.{pick, put, pick_ind, all}
+use Rattle.model.specs.Levels.{levels_within, covers, within}
+use Rattle.model.specs.theory.Whole.{Whole}
+use Rattle.typing.specs.declared.WordEnv.{WordEnv}
+use Rattle.typing.specs.Envs.{view_env}
 use Rattle.model.specs.Packing.{slot}
 use Rattle.model.specs.Rules.{settle, beside}
 use Rattle.model.specs.theory.Words.{NoThree, Levelled, lows, join_words, within_words, settle_word, put_word}
@@ -34,6 +38,20 @@ join_slots a b {r} h l p q e = λ j k. point k j
 -- within, over the n slots that both words keep to
 pub within_slots : (n a b : ℕ) {r : Bool} → a < 4 ^ 16 → b < 4 ^ 16 → Levelled n (slot a) → Levelled n (slot b) → r ≡ within_words 16 a b → levels_within n (slot a) (slot b) ≡ r
 within_slots n a b h l w v e = sym (within_words_lem 16 n a b h l w v) ∙ sym e
+
+-- .. of two environments
+pub within_words_of : (n m : ℕ) (e f : WordEnv) → e.registers < 4 ^ 16 → f.registers < 4 ^ 16 → e.arrays < 4 ^ 16 → f.arrays < 4 ^ 16
+    → Whole n m (view_env e) → Whole n m (view_env f)
+    → within n m (view_env e) (view_env f) ≡ (covers e.status f.status && (within_words 16 e.registers f.registers && within_words 16 e.arrays f.arrays))
+unfolding within
+within_words_of n m e f a b c d w v =
+    simp (within_slots n e.registers f.registers a b w.regs v.regs refl, within_slots m e.arrays f.arrays c d w.arrays v.arrays refl) (three (covers e.status f.status) _ _)
+  where
+    three : (x y z : Bool) → all (x ∷ y ∷ z ∷ []) ≡ (x && (y && z))
+    three true true true = refl
+    three true true false = refl
+    three true false z = refl
+    three false y z = refl
 
 -- one level settled
 pub settle_small : (w i : ℕ) → settle (slot w i) < 4

@@ -11,6 +11,7 @@ use Rattle.model.specs.Rules.{typing}
 use Rattle.model.specs.Decide.{typing_tests, meets_of}
 use Rattle.model.specs.Walk.{Walking, Onward, Closed, Halt, Ending, Reached, Failed, on_next, on_shut, single, if_with, while_with, instr_with, type_block, type_instr}
 use Rattle.model.specs.declared.Sizes.{Sizes}
+use Rattle.model.specs.declared.Fault.TheVariants.{TooDeep}
 use Rattle.model.specs.declared.Record.{Record}
 use Rattle.model.specs.declared.Record.TheVariants.{Do, Call, If, Else, Endif, While, Endwhile, Return}
 use Rattle.format.specs.Laws.{good}
@@ -70,7 +71,7 @@ module _ (z : Sizes) (t : List ℕ) where
     instr_ok at Return E l = refl
 
   -- with no nesting left
-  flat_ok : (at : ℕ) (i : Record) (E : Env) → Inside at i → Ok 0 at (instr_with (table z t) (typing (table z t)) (typing_tests (table z t)) (λ q F. Failed 6 at) i at E)
+  flat_ok : (at : ℕ) (i : Record) (E : Env) → Inside at i → Ok 0 at (instr_with (table z t) (typing (table z t)) (typing_tests (table z t)) (λ q F. Failed TooDeep at) i at E)
   flat_ok at (Do s) E l = single_ok 0 at (Do s) E (l (λ x. x))
   flat_ok at (Call f m) E l = single_ok 0 at (Call f m) E (l (λ x. x))
   flat_ok at (If r e) E l = pick_ind (Ok 0 at) ((typing_tests (table z t)).public E r) (λ _. tt) (λ _. tt)

@@ -28,11 +28,3 @@ Signed z t f = Fit z (env_of (in_of z t f)) × Fit z (env_of (out_of z t f))
 pub record Small (z : Sizes) : Type 0 where
   pub registers : z.registers ≤ 16
   pub arrays : z.arrays ≤ 16
-
--- a table that has been read, a place not far beyond it, a nesting within the limit
-pub record Ready (z : Sizes) (t : List ℕ) (at depth : ℕ) : Type 0 where
-  pub small : Small z
-  pub signed : (f : ℕ) → f < z.functions → Signed z t f
-  pub short : length t ≤ 32768
-  pub near : at ≤ 100000
-  pub shallow : depth ≤ 16

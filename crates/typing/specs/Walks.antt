@@ -1,52 +1,41 @@
 -- The typing walk over the bytes of a table: what the checker's functions compute.
-use Rattle.std.specs.Prelude.{ℕ, suc, ◌+◌, ◌≤◌, Bool, false, List, length}
+use Rattle.std.specs.Prelude.{ℕ, suc, ◌+◌, Bool, false, List, length, Result, Ok, Err}
 use Rattle.model.specs.Tests.{pick}
 use Rattle.model.specs.Levels.{Env, join, within}
 use Rattle.model.specs.Packing.{env_of}
 use Rattle.model.specs.Rules.{after, returned, guarded, typing}
 use Rattle.model.specs.Walk.{Walking, Onward, Closed, Halt, Ending, Reached, Failed, on_shut, if_with, while_with, type_block, type_instr, inside, type_function}
-use Rattle.model.specs.Decide.{meets, simple_number, typing_tests}
+use Rattle.model.specs.Decide.{meets, simple_fault, typing_tests}
 use Rattle.model.specs.Table.{Table}
 use Rattle.model.specs.declared.Sizes.{Sizes}
 use Rattle.model.specs.declared.Packed.{Packed}
 use Rattle.model.specs.declared.Simple.{Simple}
 use Rattle.model.specs.declared.Walked.{Walked}
-use Rattle.model.specs.declared.Ended.{Ended}
+use Rattle.model.specs.declared.Walked.TheVariants.{Next, Shut}
+use Rattle.model.specs.declared.Fault.TheVariants.{NotWithinLoop, NotWithinIn}
+use Rattle.model.specs.declared.Refusal.{Refusal}
 use Rattle.format.specs.Layout.{in_of, out_of, table_with}
 use Rattle.typing.specs.declared.Walk.{Walk}
 use Rattle.typing.specs.declared.BlockEnd.{BlockEnd}
 use Rattle.typing.specs.Envs.{view_env}
 
--- how far a walk came, with the environment there; at a fault there is none
+-- how far a walk came, with the environment there
 abbrev pub going : Walked → Env → Walking Env
-going (Walked.Next p) E = Onward p E
-going (Walked.Shut p) E = Closed p E
-going (Walked.Fault n p) E = Halt n p
+going (Next p) E = Onward p E
+going (Shut p) E = Closed p E
 
-abbrev pub view_walk : Walk → Walking Env
-view_walk w = going w.to (view_env w.env)
+abbrev pub view_walk : Result Walk Refusal → Walking Env
+view_walk (Ok w) = going w.to (view_env w.env)
+view_walk (Err e) = Halt e.fault e.place
 
 -- .. and how that of a block ended
-abbrev pub ends : Ended → Env → Ending Env
-ends (Ended.Shut p) E = Reached p E
-ends (Ended.Fault n p) E = Failed n p
-
-abbrev pub view_end : BlockEnd → Ending Env
-view_end w = ends w.to (view_env w.env)
-
--- not far beyond the table
-abbrev pub Close : Ended → Type 0
-Close (Ended.Shut p) = p ≤ 1000000
-Close (Ended.Fault n p) = Unit {0}
-
--- the same without the environment
-abbrev pub bare : Ending Env → Ended
-bare (Reached p E) = Ended.Shut p
-bare (Failed n p) = Ended.Fault n p
+abbrev pub view_end : Result BlockEnd Refusal → Ending Env
+view_end (Ok w) = Reached w.place (view_env w.env)
+view_end (Err e) = Failed e.fault e.place
 
 -- a simple record at `at`, with `next` after it
 abbrev pub simple_walk : Sizes → Simple → ℕ → ℕ → Env → Walking Env
-simple_walk z s at next E = pick (meets s E) (Onward next (after z.arrays s E)) (Halt (simple_number s) at)
+simple_walk z s at next E = pick (meets s E) (Onward next (after z.arrays s E)) (Halt (simple_fault s) at)
 
 -- the end of an IF whose first block ended in E₁
 abbrev pub join_walk : Env → Ending Env → Walking Env
@@ -54,12 +43,12 @@ join_walk E₁ w = on_shut Halt w λ n E₂. Onward (n + 1) (join E₁ E₂)
 
 -- the end of the body of a WHILE with the loop environment L on r
 abbrev pub back_walk : Sizes → ℕ → Packed → Ending Env → Walking Env
-back_walk z r L w = on_shut Halt w λ e E₁. pick (within z.registers z.arrays E₁ (env_of L)) (Onward (e + 3) (guarded (env_of L) r false)) (Halt 12 e)
+back_walk z r L w = on_shut Halt w λ e E₁. pick (within z.registers z.arrays E₁ (env_of L)) (Onward (e + 3) (guarded (env_of L) r false)) (Halt NotWithinLoop e)
 
 module _ (z : Sizes) (t : List ℕ) where
   -- a CALL of f at `at`, with `next` after it
   abbrev pub call_walk : ℕ → Bool → ℕ → ℕ → Env → Walking Env
-  call_walk f m at next E = pick (within z.registers z.arrays E (env_of (in_of z t f))) (Onward next (returned (env_of (out_of z t f)) m E)) (Halt 13 at)
+  call_walk f m at next E = pick (within z.registers z.arrays E (env_of (in_of z t f))) (Onward next (returned (env_of (out_of z t f)) m E)) (Halt NotWithinIn at)
 
   abbrev pub table : Table
   table = table_with z t

@@ -4,8 +4,9 @@
 ghost use Rattle.std.specs.Prelude.{◌≡◌};
 ghost use Rattle.typing.specs.Check.{check_at};
 
-use model::{Ended, Status, Typing, Walked};
-use reading::Answer;
+use layout::Table;
+use model::{Refusal, Status, Walked};
+use walks::ReadTable;
 
 mod environments;
 mod rules;
@@ -20,42 +21,41 @@ pub struct WordEnv {
     pub arrays: u32,
 }
 
-// How far the walk of a record came, and the environment there. At a fault the environment says nothing.
+// How far the walk of a record came, and the environment there.
 #[derive(Clone, Copy)]
 pub struct Walk {
     pub to: Walked,
     pub env: WordEnv,
 }
 
-// How the walk of a block ended, and the environment there; at a fault it says nothing.
+// Where the walk of a block ended, and the environment there.
 #[derive(Clone, Copy)]
 pub struct BlockEnd {
-    pub to: Ended,
+    pub place: usize,
     pub env: WordEnv,
 }
 
-// What the check of a table answers: how many functions it accepts in how many bytes; or the first fault with its
-// place.
-#[derive(Clone, Copy)]
-pub enum Verdict {
-    Accepted(u8, usize),
-    Refused(u8, usize),
+// What is accepted: so many functions in so many bytes.
+#[derive(Clone, Copy, Debug, PartialEq, Eq)]
+pub struct Accepted {
+    pub functions: u8,
+    pub bytes: usize,
 }
+
+// What the check of a table answers: what it accepts, or the first fault with its place.
+pub type Verdict = Result<Accepted, Refusal>;
 
 // Checks a table. Nothing is kept between two calls.
 pub fn check(t: &[u8]) -> Verdict
     ensures { result ≡ check_at t.now }
 {
-    let a = reading::read(t);
-    match a {
-        Answer::Refused(n, p) => Verdict::Refused(n, p),
-        Answer::Reads(z) => {
-            let functions = z.functions;
-            let w = walks::functions(t, z, functions);
-            match w {
-                Typing::Passes => Verdict::Accepted(functions, t.len()),
-                Typing::Fault(n, p) => Verdict::Refused(n, p),
-            }
-        }
-    }
+    let sizes = reading::read(t)?;
+    let table = ReadTable {
+        table: Table { bytes: t, sizes },
+    };
+    walks::functions(&table)?;
+    Ok(Accepted {
+        functions: sizes.functions,
+        bytes: t.len(),
+    })
 }

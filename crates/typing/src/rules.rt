@@ -1,5 +1,5 @@
 // The rules for single records: what a record asks of the environment, and the environment after it.
-ghost use Rattle.std.specs.Prelude.{◌≡◌, ◌<◌, ◌≤◌, max, eqb};
+ghost use Rattle.std.specs.Prelude.{◌≡◌, ◌<◌, ◌≤◌, max, eqb, Some, None};
 ghost use Rattle.model.specs.Decide.{fault_of};
 ghost use Rattle.model.specs.Levels.{same_status};
 ghost use Rattle.model.specs.Packing.{slot};
@@ -11,9 +11,9 @@ ghost use Rattle.model.specs.theory.Words.{NoThree};
 ghost use Rattle.typing.specs.Envs.{view_env, Small};
 
 use crate::WordEnv;
-use crate::environments::{env_from, killed, same_status};
+use crate::environments::{env_from, killed};
 use levels::{join_levels, larger, level, settle_levels, settled, transients, with_level};
-use model::{Simple, Sizes, Status};
+use model::{Fault, Simple, Sizes, Status};
 
 // Register i is public.
 pub(crate) fn is_public(e: WordEnv, i: u8) -> bool
@@ -22,42 +22,36 @@ pub(crate) fn is_public(e: WordEnv, i: u8) -> bool
     level(e.registers, i) == 0
 }
 
-// 10 where register i, an index, is not public.
-fn index_fault(e: WordEnv, i: u8) -> u8
-    ensures { result ≡ pick (eqb ((view_env e).regs i) 0) 0 10 }
+// Where register i, an index, is not public.
+fn index_fault(e: WordEnv, i: u8) -> Option<Fault>
+    ensures { result ≡ pick (eqb ((view_env e).regs i) 0) None (Some Fault.NotPublic) }
 {
     if is_public(e, i) {
-        return 0;
+        return None;
     }
-    10
+    Some(Fault::NotPublic)
 }
 
-// 11 where the status is not s.
-fn status_fault(e: WordEnv, s: Status) -> u8
-    ensures { result ≡ pick (same_status (view_env e).status s) 0 11 }
+// Where the status is not s.
+#[tactic(auto, unfolding(model::specs::Levels::same_status))]
+fn status_fault(e: WordEnv, s: Status) -> Option<Fault>
+    ensures { result ≡ pick (same_status (view_env e).status s) None (Some Fault.WrongStatus) }
 {
-    let a = e.status;
-    if same_status(a, s) {
-        return 0;
+    if e.status == s {
+        return None;
     }
-    11
+    Some(Fault::WrongStatus)
 }
 
-// The number of a simple record's fault; 0 where the environment gives it what it asks.
-pub(crate) fn fault_of(s: Simple, e: WordEnv) -> u8
+// A simple record's fault, where the environment does not give it what it asks.
+pub(crate) fn fault_of(s: Simple, e: WordEnv) -> Option<Fault>
     ensures { result ≡ fault_of s (view_env e) }
 {
     match s {
-        Simple::Const { .. } => 0,
-        Simple::Op { .. } => 0,
-        Simple::Select { .. } => 0,
-        Simple::Load { index, .. } => index_fault(e, index),
-        Simple::Store { index, .. } => index_fault(e, index),
-        Simple::Init => 0,
+        Simple::Load { index, .. } | Simple::Store { index, .. } => index_fault(e, index),
         Simple::Update { register, sense } => status_fault(e, Status::Outdated(register, sense)),
         Simple::Protect { .. } => status_fault(e, Status::Updated),
-        Simple::LoadFixed { .. } => 0,
-        Simple::StoreFixed { .. } => 0,
+        _ => None,
     }
 }
 
@@ -67,10 +61,10 @@ fn written_env(e: WordEnv, d: u8, l: u8) -> WordEnv
     ensures { view_env result ≡ written (view_env e) d l }
 {
     let registers = with_level(e.registers, d, l);
-    let s = e.status;
-    env_from(killed(d, s), registers, e.arrays)
+    env_from(killed(d, e.status), registers, e.arrays)
 }
 
+#[tactic(auto, using(model::proofs::theory::Words::slot_small))]
 fn after_op(e: WordEnv, dest: u8, left: u8, right: u8) -> WordEnv
     requires { dest < 16 }
     ensures { view_env result ≡ written (view_env e) dest (max ((view_env e).regs left) ((view_env e).regs right)) }
@@ -79,6 +73,7 @@ fn after_op(e: WordEnv, dest: u8, left: u8, right: u8) -> WordEnv
     written_env(e, dest, larger(level(a, left), level(a, right)))
 }
 
+#[tactic(auto, using(model::proofs::theory::Words::slot_small))]
 fn after_select(e: WordEnv, dest: u8, cond: u8, yes: u8, no: u8) -> WordEnv
     requires { dest < 16 }
     ensures { view_env result ≡ written (view_env e) dest (max ((view_env e).regs cond) (max ((view_env e).regs yes) ((view_env e).regs no))) }
@@ -92,21 +87,21 @@ fn after_select(e: WordEnv, dest: u8, cond: u8, yes: u8, no: u8) -> WordEnv
 }
 
 // A stray read may find anything that is not public: never public.
+#[tactic(auto, using(model::proofs::theory::Words::slot_small))]
 fn after_load(e: WordEnv, dest: u8, array: u8) -> WordEnv
     requires { dest < 16 }
     ensures { view_env result ≡ written (view_env e) dest (max 1 ((view_env e).arrays array)) }
 {
-    let a = e.arrays;
-    written_env(e, dest, larger(1, level(a, array)))
+    written_env(e, dest, larger(1, level(e.arrays, array)))
 }
 
 // A fixed place is never left, not even while misspeculating: the array's own level.
+#[tactic(auto, using(model::proofs::theory::Words::slot_small))]
 fn after_load_fixed(e: WordEnv, dest: u8, array: u8) -> WordEnv
     requires { dest < 16 }
     ensures { view_env result ≡ written (view_env e) dest ((view_env e).arrays array) }
 {
-    let a = e.arrays;
-    written_env(e, dest, level(a, array))
+    written_env(e, dest, level(e.arrays, array))
 }
 
 // The named array raised to the source's level, beside the others at the levels given.
@@ -116,8 +111,7 @@ fn raised_env(e: WordEnv, others: u32, array: u8, source: u8) -> WordEnv
 {
     let named = larger(level(e.arrays, array), level(e.registers, source));
     let arrays = with_level(others, array, named);
-    let status = e.status;
-    env_from(status, e.registers, arrays)
+    env_from(e.status, e.registers, arrays)
 }
 
 // The levels of so many arrays beside one into which level l is stored: what was public becomes transient, unless l
@@ -147,8 +141,7 @@ fn after_store_fixed(e: WordEnv, array: u8, source: u8) -> WordEnv
     requires { array < 16 }
     ensures { view_env result ≡ stored_fixed (view_env e) array source }
 {
-    let others = e.arrays;
-    raised_env(e, others, array, source)
+    raised_env(e, e.arrays, array, source)
 }
 
 fn after_init(e: WordEnv) -> WordEnv
@@ -170,8 +163,7 @@ fn after_protect(e: WordEnv, dest: u8, source: u8) -> WordEnv
     requires { dest < 16 }
     ensures { view_env result ≡ protected (view_env e) dest source }
 {
-    let a = e.registers;
-    let registers = with_level(a, dest, settled(level(a, source)));
+    let registers = with_level(e.registers, dest, settled(level(e.registers, source)));
     env_from(Status::Updated, registers, e.arrays)
 }
 
@@ -182,18 +174,8 @@ pub(crate) fn after_simple(z: Sizes, s: Simple, e: WordEnv) -> WordEnv
 {
     match s {
         Simple::Const { dest, .. } => written_env(e, dest, 0),
-        Simple::Op {
-            dest,
-            left,
-            right,
-            ..
-        } => after_op(e, dest, left, right),
-        Simple::Select {
-            dest,
-            cond,
-            yes,
-            no,
-        } => after_select(e, dest, cond, yes, no),
+        Simple::Op { dest, left, right, .. } => after_op(e, dest, left, right),
+        Simple::Select { dest, cond, yes, no } => after_select(e, dest, cond, yes, no),
         Simple::Load { dest, array, .. } => after_load(e, dest, array),
         Simple::Store { array, source, .. } => after_store(z, e, array, source),
         Simple::Init => after_init(e),

@@ -1,4 +1,4 @@
-use Rattle.std.proofs.Common.{◌≡◌, ◌+◌, ◌<◌, ◌≤◌, length, ℕ, ◌-◌, ◌*◌}
+use Rattle.std.proofs.Common.{◌≡◌, ◌+◌, ◌<◌, length, ℕ, ◌-◌, ◌*◌}
 use Rattle.typing.specs.Envs.{view_env, Fit}
 use Rattle.typing.specs.Walks.{size, block_walk}
 use Rattle.typing.proofs.walks.+block_branch_one_repeat.Given as goal
@@ -17,14 +17,15 @@ abbrev pub decreases-repeat : goal.decreases-repeat
 decreases-repeat l = 3 * l.depth
 
 -- the model's walk from the start is its walk from here on, k bounding the records that are left
-abbrev pub invariant-block-loop-n : goal.invariant-block-loop-n
-invariant-block-loop-n l =
+abbrev pub invariant-block-loop-w : goal.invariant-block-loop-w
+invariant-block-loop-w l =
+    let z = l.t.table.sizes in
+    let t = l.t.table.bytes.now in
     (k : ℕ)
-    × (length l.t - l.at < k)
-    × (l.at ≤ 100000)
-    × Fit l.z (view_env l.e)
-    × (block_walk l.z l.t l.depth (size l.z l.t) l.initial.at (view_env l.initial.e) ≡ block_walk l.z l.t l.depth k l.at (view_env l.e))
+    × (length t - l.at < k)
+    × Fit z (view_env l.e)
+    × (block_walk z t l.depth (size z t) l.initial.at (view_env l.initial.e) ≡ block_walk z t l.depth k l.at (view_env l.e))
 
 -- in a block it is the bytes that are left
-abbrev pub decreases-block-loop-n : goal.decreases-block-loop-n
-decreases-block-loop-n l = length l.t - l.at
+abbrev pub decreases-block-loop-w : goal.decreases-block-loop-w
+decreases-block-loop-w l = length l.t.table.bytes.now - l.at

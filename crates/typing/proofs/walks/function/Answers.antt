@@ -1,43 +1,46 @@
-use native.Mathlib.Omega.{arith}
+use Rattle.std.specs.Prelude.{Ok}
 use mathlib.Core.Path.{sym, ap, subst, ◌∙◌}
+use Rattle.model.specs.Levels.{Env}
 use Rattle.model.specs.Packing.{env_of}
-use Rattle.format.specs.Layout.{out_of}
-use Rattle.typing.specs.Walks.{bare}
+use Rattle.model.specs.Typing.{on_pass}
+use Rattle.model.specs.Walk.{Ending}
+use Rattle.format.specs.Layout.{start_of, out_of}
+use Rattle.typing.specs.Walks.{size}
 use Rattle.typing.specs.Envs.{view_env, Fit}
-use Rattle.typing.proofs.Ready.{moved}
-use Rattle.typing.proofs.Turns.{seen_end, at_shut, within_packed, walk_fit, function_block, function_is, function_on, function_out}
+use Rattle.typing.proofs.Turns.{handed, within_packed, block_fit, function_block, function_is}
 use Rattle.typing.proofs.walks.function.Goals as goal
 
-pub block-w-requires : goal.block-w-requires
-block-w-requires c =
+pub block-requires : goal.block-requires
+block-requires c =
     let a = c.args in
-    let p = c.requires in
-    let s = c.start_of-start.ensures.1 in
-    (moved p.0 (omega arith) (omega arith), subst (Fit a.z) (sym (c.env_of-into.ensures ∙ ap env_of c.in_of.ensures)) (p.0.signed a.g p.1).0)
+    subst (Fit a.t.now.table.sizes) (sym (c.from-into.ensures ∙ ap env_of c.in_of.ensures)) (a.t.now.signed a.g c.requires).0
 
-pub returns-then-env_within : goal.returns-then-env_within
-returns-then-env_within c =
+pub returns-in_err-end : goal.returns-in_err-end
+returns-in_err-end c =
     let a = c.args in
-    let p = c.requires in
-    let e = view_env c.block-w.result.env in
-    let into = c.env_of-into.ensures ∙ ap env_of c.in_of.ensures in
-    let f = walk_fit a.z a.t.now p.0 16 _ _ _ c.block-w.result (subst (Fit a.z) (sym into) (p.0.signed a.g p.1).0) c.block-w.ensures in
-    let w = within_packed a.z e (out_of a.z a.t.now a.g) (at_shut (Fit a.z) c.block-w.result c.in-Shut.is f) (p.0.signed a.g p.1).1 c.env_within.ensures (c.env_of-out.ensures ∙ ap env_of c.out_of.ensures) c.if-env_within.true in
-    let b = function_block a.z a.t.now a.g c.start_of-start.ensures.0 into c.block-w.ensures (seen_end c.block-w.result c.in-Shut.is) in
-    ap bare (function_on a.z a.t.now a.g c.in-Shut.p e w b)
+    let z = a.t.now.table.sizes in
+    let t = a.t.now.table.bytes.now in
+    let b = function_block z t a.g c.start_of.ensures.0 (c.from-into.ensures ∙ ap env_of c.in_of.ensures) c.in_err-end.ensures in
+    handed _ c.in_err-end.field-0.0 c.from_residual.ensures.1 ∙ ap (λ (w : Ending Env). on_pass w (Ok tt)) (function_is z t a.g b)
 
-pub returns-in-Fault : goal.returns-in-Fault
-returns-in-Fault c =
+pub returns-then-not-env_within : goal.returns-then-not-env_within
+returns-then-not-env_within c =
     let a = c.args in
-    ap bare (function_is a.z a.t.now a.g (function_block a.z a.t.now a.g c.start_of-start.ensures.0 (c.env_of-into.ensures ∙ ap env_of c.in_of.ensures) c.block-w.ensures (seen_end c.block-w.result c.in-Fault.is)))
+    let z = a.t.now.table.sizes in
+    let t = a.t.now.table.bytes.now in
+    let into = c.from-into.ensures ∙ ap env_of c.in_of.ensures in
+    let b = function_block z t a.g c.start_of.ensures.0 into c.in_ok-end.ensures in
+    let f = block_fit z t a.t.now.signed 16 (size z t) _ _ (subst (Fit z) (sym into) (a.t.now.signed a.g c.requires).0) c.in_ok-end.ensures in
+    let v = within_packed z (view_env c.in_ok-end.end.env) (out_of z t a.g) f (a.t.now.signed a.g c.requires).1 c.env_within.ensures (c.from-out.ensures ∙ ap env_of c.out_of.ensures) c.if-not-env_within.true in
+    rw (sym (function_is z t a.g b), v, c.at.ensures)
 
-pub returns-else-env_within : goal.returns-else-env_within
-returns-else-env_within c =
+pub returns : goal.returns
+returns c =
     let a = c.args in
-    let p = c.requires in
-    let e = view_env c.block-w.result.env in
-    let into = c.env_of-into.ensures ∙ ap env_of c.in_of.ensures in
-    let f = walk_fit a.z a.t.now p.0 16 _ _ _ c.block-w.result (subst (Fit a.z) (sym into) (p.0.signed a.g p.1).0) c.block-w.ensures in
-    let w = within_packed a.z e (out_of a.z a.t.now a.g) (at_shut (Fit a.z) c.block-w.result c.in-Shut.is f) (p.0.signed a.g p.1).1 c.env_within.ensures (c.env_of-out.ensures ∙ ap env_of c.out_of.ensures) c.if-env_within.false in
-    let b = function_block a.z a.t.now a.g c.start_of-start.ensures.0 into c.block-w.ensures (seen_end c.block-w.result c.in-Shut.is) in
-    ap bare (function_out a.z a.t.now a.g c.in-Shut.p e w b)
+    let z = a.t.now.table.sizes in
+    let t = a.t.now.table.bytes.now in
+    let into = c.from-into.ensures ∙ ap env_of c.in_of.ensures in
+    let b = function_block z t a.g c.start_of.ensures.0 into c.in_ok-end.ensures in
+    let f = block_fit z t a.t.now.signed 16 (size z t) _ _ (subst (Fit z) (sym into) (a.t.now.signed a.g c.requires).0) c.in_ok-end.ensures in
+    let v = within_packed z (view_env c.in_ok-end.end.env) (out_of z t a.g) f (a.t.now.signed a.g c.requires).1 c.env_within.ensures (c.from-out.ensures ∙ ap env_of c.out_of.ensures) c.if-not-env_within.false in
+    rw (sym (function_is z t a.g b), v)
