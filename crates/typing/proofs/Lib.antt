@@ -1,3 +1,4 @@
 pub mod Packed
 pub mod Statuses
 pub mod Turns
+pub mod Ready

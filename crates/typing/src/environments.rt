@@ -93,7 +93,9 @@ impl From<Packed> for WordEnv {
 pub(crate) fn env_within(e: WordEnv, f: WordEnv) -> bool
     ensures { (n m : ℕ) → Whole n m (view_env e) → Whole n m (view_env f) → result ≡ within n m (view_env e) (view_env f) }
 {
-    covers_status(e.status, f.status) && levels_within(e.registers, f.registers) && levels_within(e.arrays, f.arrays)
+    covers_status(e.status, f.status)
+        && levels_within(e.registers, f.registers)
+        && levels_within(e.arrays, f.arrays)
 }
 
 // The larger level slot by slot; equal statuses stay, others become unknown.

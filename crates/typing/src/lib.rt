@@ -46,6 +46,7 @@ pub struct Accepted {
 pub type Verdict = Result<Accepted, Refusal>;
 
 // Checks a table. Nothing is kept between two calls.
+#[tactic(auto, unfolding(crate::specs::Check::check_at))]
 pub fn check(t: &[u8]) -> Verdict
     ensures { result ≡ check_at t.now }
 {

@@ -174,8 +174,18 @@ pub(crate) fn after_simple(z: Sizes, s: Simple, e: WordEnv) -> WordEnv
 {
     match s {
         Simple::Const { dest, .. } => written_env(e, dest, 0),
-        Simple::Op { dest, left, right, .. } => after_op(e, dest, left, right),
-        Simple::Select { dest, cond, yes, no } => after_select(e, dest, cond, yes, no),
+        Simple::Op {
+            dest,
+            left,
+            right,
+            ..
+        } => after_op(e, dest, left, right),
+        Simple::Select {
+            dest,
+            cond,
+            yes,
+            no,
+        } => after_select(e, dest, cond, yes, no),
         Simple::Load { dest, array, .. } => after_load(e, dest, array),
         Simple::Store { array, source, .. } => after_store(z, e, array, source),
         Simple::Init => after_init(e),

@@ -32,11 +32,21 @@ fn simple(z: Sizes, s: Simple, at: usize, next: usize, e: WordEnv) -> Result<Wal
     if let Some(fault) = fault_of(s, e) {
         return Err(fault.at(at));
     }
-    Ok(Walk { to: Walked::Next(next), env: after_simple(z, s, e) })
+    Ok(Walk {
+        to: Walked::Next(next),
+        env: after_simple(z, s, e),
+    })
 }
 
 // The CALL of a function at `at`, with `next` after it.
-fn call(t: &ReadTable, function: u8, mark: bool, at: usize, next: usize, e: WordEnv) -> Result<Walk, Refusal>
+fn call(
+    t: &ReadTable,
+    function: u8,
+    mark: bool,
+    at: usize,
+    next: usize,
+    e: WordEnv,
+) -> Result<Walk, Refusal>
     requires { (function < t.now.table.sizes.functions) × Fit t.now.table.sizes (view_env e) }
     ensures { view_walk result ≡ call_walk t.now.table.sizes t.now.table.bytes.now function mark at next (view_env e) }
 {
@@ -45,7 +55,10 @@ fn call(t: &ReadTable, function: u8, mark: bool, at: usize, next: usize, e: Word
         return Err(Fault::NotWithinIn.at(at));
     }
     let out = WordEnv::from(t.table.out_of(function));
-    Ok(Walk { to: Walked::Next(next), env: returned_env(out, mark, e) })
+    Ok(Walk {
+        to: Walked::Next(next),
+        env: returned_env(out, mark, e),
+    })
 }
 
 // The IF on a register at `at`: both blocks, then their join.
@@ -61,13 +74,28 @@ fn branch(t: &ReadTable, at: usize, register: u8, depth: u8, e: WordEnv) -> Resu
         return Err(Fault::TooDeep.at(at));
     }
     let first = block(t, at + 4, depth - 1, guarded_env(e, register, true))?;
-    let second = block(t, first.place + 3, depth - 1, guarded_env(e, register, false))?;
-    Ok(Walk { to: Walked::Next(second.place + 1), env: join_envs(first.env, second.env) })
+    let second = block(
+        t,
+        first.place + 3,
+        depth - 1,
+        guarded_env(e, register, false),
+    )?;
+    Ok(Walk {
+        to: Walked::Next(second.place + 1),
+        env: join_envs(first.env, second.env),
+    })
 }
 
 // The WHILE on a register at `at`, with its loop environment. What arrives is compared before the guard is looked at.
 #[cycle(block_branch_one_repeat)]
-fn repeat(t: &ReadTable, at: usize, register: u8, packed: Packed, depth: u8, e: WordEnv) -> Result<Walk, Refusal>
+fn repeat(
+    t: &ReadTable,
+    at: usize,
+    register: u8,
+    packed: Packed,
+    depth: u8,
+    e: WordEnv,
+) -> Result<Walk, Refusal>
     requires { (at + 11 ≤ length t.now.table.bytes.now) × Fit t.now.table.sizes (view_env e) × Fit t.now.table.sizes (env_of packed) }
     ensures { view_walk result ≡ while_walk t.now.table.sizes t.now.table.bytes.now depth at register packed (view_env e) }
 {
@@ -85,7 +113,10 @@ fn repeat(t: &ReadTable, at: usize, register: u8, packed: Packed, depth: u8, e: 
     if !env_within(body.env, kept) {
         return Err(Fault::NotWithinLoop.at(body.place));
     }
-    Ok(Walk { to: Walked::Next(body.place + 3), env: guarded_env(kept, register, false) })
+    Ok(Walk {
+        to: Walked::Next(body.place + 3),
+        env: guarded_env(kept, register, false),
+    })
 }
 
 // The record at `at`. Where none can be read, RETURN stands for it.
@@ -100,7 +131,10 @@ fn one(t: &ReadTable, at: usize, depth: u8, e: WordEnv) -> Result<Walk, Refusal>
         Record::Call { function, mark } => call(t, function, mark, at, next, e),
         Record::If { register, .. } => branch(t, at, register, depth, e),
         Record::While { register, env, .. } => repeat(t, at, register, env, depth, e),
-        _ => Ok(Walk { to: Walked::Shut(at), env: e }),
+        _ => Ok(Walk {
+            to: Walked::Shut(at),
+            env: e,
+        }),
     }
 }
 
@@ -119,7 +153,10 @@ fn block(t: &ReadTable, from: usize, depth: u8, env: WordEnv) -> Result<BlockEnd
                 at = n;
                 e = w.env;
             }
-            Walked::Shut(p) => return Ok(BlockEnd { place: p, env: w.env }),
+            Walked::Shut(p) => return Ok(BlockEnd {
+                place: p,
+                env: w.env,
+            }),
         }
     }
 }
