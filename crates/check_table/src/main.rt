@@ -5,51 +5,33 @@
 // whole is never accepted.
 #![tactic(auto)]
 
+ghost use Rattle.std.specs.Prelude.{◌≤◌, length, IfOk};
+
 use std::io::{Read, Stdin};
 use typing::Verdict;
 
-// What came on standard input: all of it (or as much as there is room for), or what came before a read failed.
-#[derive(Clone, Copy)]
-enum Input {
-    Whole(usize),
-    Failed(usize),
-}
-
-fn read_input(mut stdin: Stdin, space: &mut [u8]) -> Input {
+// How many bytes came: all of the input, or as much as there is room for. Err: how many came before a read failed.
+fn read_input(mut stdin: Stdin, space: &mut [u8]) -> Result<usize, usize>
+    ensures { IfOk result (λ n. n ≤ length space.new) }
+{
     let mut n = 0;
     while n < space.len() {
         match stdin.read(&mut space[n..]) {
-            Err(_) => return Input::Failed(n),
-            Ok(more) => {
-                if more == 0 {
-                    return Input::Whole(n);
-                }
-                n += more;
-            }
+            Ok(0) => break,
+            Ok(more) => n += more,
+            Err(_) => return Err(n),
         }
     }
-    Input::Whole(n)
-}
-
-fn judge(table: &[u8], input: Input) -> Verdict {
-    match input {
-        Input::Failed(n) => Verdict::Refused(2, n),
-        Input::Whole(n) => {
-            if n <= table.len() {
-                return typing::check(&table[..n]);
-            }
-            Verdict::Refused(2, n)
-        }
-    }
+    Ok(n)
 }
 
 fn main(rt: HostRuntime) {
     let mut table = [0u8; 32769];
-    let input = read_input(rt.stdin(), &mut table);
-    let verdict = judge(&table, input);
+    let verdict = match read_input(rt.stdin(), &mut table) {
+        Ok(n) => typing::check(&table[..n]),
+        Err(n) => Verdict::Refused(2, n),
+    };
     let mut line = [0u8; 80];
     let n = report::verdict_line(verdict, &mut line);
-    if n <= 80 {
-        io::write_all(1, &line[..n]);
-    }
+    io::write_all(1, &line[..n]);
 }

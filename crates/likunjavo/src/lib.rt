@@ -2,34 +2,15 @@
 // is a pointer and a length (bindings/c/likunjavo.h). No function asks anything of what it is lent.
 #![tactic(auto)]
 
-ghost use Rattle.std.specs.Prelude.{◌≡◌, [], ◌∷◌};
+ghost use Rattle.std.specs.Prelude.{◌≡◌};
 ghost use Rattle.typing.specs.Check.{check_at};
 ghost use Rattle.message.specs.Shown.{part_of};
 ghost use Rattle.machine.specs.Runs.{run_at};
 ghost use Rattle.likunjavo.specs.Numbers.{verdict_numbers, part_numbers, left, left_of};
-ghost use Rattle.model.specs.Tests.{pick};
 
 use machine::Outcome;
 use message::Part;
 use typing::Verdict;
-
-fn put_three(answer: &mut [u64; 3], a: u64, b: u64, c: u64)
-    ensures { answer.new ≡ a ∷ b ∷ c ∷ [] }
-{
-    *answer = [a, b, c];
-}
-
-fn put_five(answer: &mut [u64; 5], a: u64, b: u64, c: u64, d: u64, e: u64)
-    ensures { answer.new ≡ a ∷ b ∷ c ∷ d ∷ e ∷ [] }
-{
-    *answer = [a, b, c, d, e];
-}
-
-fn bit(b: bool) -> u64
-    ensures { result ≡ pick b 1 0 }
-{
-    if b { 1 } else { 0 }
-}
 
 // Checks a table. The answer: the fault's number (0: the table passes), its place, and the functions of a table that
 // passes.
@@ -37,11 +18,10 @@ fn bit(b: bool) -> u64
 pub extern "C" fn likunjavo_check(table: &[u8], answer: &mut [u64; 3])
     ensures { answer.new ≡ verdict_numbers (check_at table.now) }
 {
-    let v = typing::check(table);
-    match v {
-        Verdict::Accepted(functions, bytes) => put_three(answer, 0, 0, functions as u64),
-        Verdict::Refused(number, place) => put_three(answer, number as u64, place as u64, 0),
-    }
+    *answer = match typing::check(table) {
+        Verdict::Accepted(functions, _) => [0, 0, u64::from(functions)],
+        Verdict::Refused(number, place) => [u64::from(number), place as u64, 0],
+    };
 }
 
 // The bytes that the message for a number at a place shows. The answer: 0 where they lie in the table, 1 in the list;
@@ -56,11 +36,10 @@ pub extern "C" fn likunjavo_shown(
 )
     ensures { answer.new ≡ part_numbers (part_of table.now list.now number place) }
 {
-    let p = message::part_of(table, list, number, place);
-    match p {
-        Part::Table(start, count) => put_three(answer, 0, start as u64, count as u64),
-        Part::List(start, count) => put_three(answer, 1, start as u64, count as u64),
-    }
+    *answer = match message::part_of(table, list, number, place) {
+        Part::Table(start, count) => [0, start as u64, count as u64],
+        Part::List(start, count) => [1, start as u64, count as u64],
+    };
 }
 
 // Runs a table. The answer: the number of the refusal (1 to 16) or of the stop (20 to 26), the place, the steps taken,
@@ -77,16 +56,14 @@ pub extern "C" fn likunjavo_run(
     ensures { left answer.new registers.new memory.new observations.new
         ≡ left_of (run_at table.now registers.old memory.old list.now observations.old) }
 {
-    let o = machine::run(table, registers, memory, list, observations);
-    match o {
-        Outcome::Refused(number, place) => put_five(answer, number as u64, place as u64, 0, 0, 0),
-        Outcome::Stopped(s) => put_five(
-            answer,
-            s.number as u64,
+    *answer = match machine::run(table, registers, memory, list, observations) {
+        Outcome::Refused(number, place) => [u64::from(number), place as u64, 0, 0, 0],
+        Outcome::Stopped(s) => [
+            u64::from(s.number),
             s.place as u64,
             s.steps as u64,
-            bit(s.mis),
-            bit(s.masked),
-        ),
-    }
+            u64::from(s.mis),
+            u64::from(s.masked),
+        ],
+    };
 }
