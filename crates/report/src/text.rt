@@ -1,51 +1,60 @@
-// Bytes and decimal numbers, written into a lent buffer. What has no room in it is left out, and the place to go on
-// at is counted all the same.
-ghost use Rattle.std.specs.Prelude.{◌≡◌, ◌+◌, ◌≤◌, length, set};
-ghost use Rattle.std.proofs.lemmas.List.Edits.{sets};
-ghost use Rattle.report.specs.Text.{decimal, digits_in};
+// A line in a lent buffer.
+ghost use Rattle.std.specs.Prelude.{◌≡◌, ◌+◌, ◌≤◌, [], ◌∷◌, length};
+ghost use Rattle.report.specs.Added.{Adds};
+ghost use Rattle.report.specs.Text.{decimal};
 
-fn put(s: &mut [u8], i: usize, v: u8)
-    ensures { s.new ≡ set s.old i v }
-{
-    if i < s.len() {
-        s[i] = v;
-    }
+// A line, written from the start of a lent buffer on. What has no room in the buffer is left out, and counts all the
+// same.
+#[derive(Drop)]
+pub(crate) struct Line<'a> {
+    space: &'a mut [u8],
+    length: usize,
 }
 
-// A short fixed text; the place after it.
-pub(crate) fn put_bytes(s: &mut [u8], at: usize, text: &[u8]) -> usize
-    requires { (at ≤ 100) × (length text.now ≤ 100) }
-    ensures { (result ≡ at + length text.now) × (s.new ≡ sets s.old at text.now) }
-{
-    let mut i = 0;
-    while i < text.len() {
-        put(s, at + i, text[i]);
-        i += 1;
+impl<'a> Line<'a> {
+    pub(crate) fn new(space: &'a mut [u8]) -> Line<'a>
+        ensures same_buffer { result.space.ghost_name ≡ space.entry.ghost_name }
+        ensures as_lent { result.space.now ≡ space.old }
+        ensures empty { result.length ≡ 0 }
+    {
+        Line { space, length: 0 }
     }
-    at + i
-}
 
-// At most k digits of n: the code carries the bound by which the definition recurs.
-fn put_digits(s: &mut [u8], at: usize, n: usize, k: u8) -> usize
-    requires { (at ≤ 100) × (k ≤ 20) }
-    ensures { (result ≡ at + length (digits_in k n)) × (length (digits_in k n) ≤ k) × (s.new ≡ sets s.old at (digits_in k n)) }
-{
-    if k == 0 {
-        return at;
+    pub(crate) fn length(&self) -> usize
+        ensures { result ≡ self.now.length }
+    {
+        self.length
     }
-    if n < 10 {
-        put(s, at, (n % 256) as u8 + 48);
-        return at + 1;
-    }
-    let to = put_digits(s, at, n / 10, k - 1);
-    put(s, to, (n % 10) as u8 + 48);
-    to + 1
-}
 
-// A number in decimal; the place after it.
-pub(crate) fn put_decimal(s: &mut [u8], at: usize, n: usize) -> usize
-    requires { at ≤ 100 }
-    ensures { (result ≡ at + length (decimal n)) × (result ≤ at + 20) × (s.new ≡ sets s.old at (decimal n)) }
-{
-    put_digits(s, at, n, 20)
+    fn byte(&mut self, byte: u8)
+        requires { self.old.length ≤ 200 }
+        ensures { Adds self.old (byte ∷ []) self.new }
+    {
+        if self.length < self.space.len() {
+            self.space[self.length] = byte;
+        }
+        self.length += 1;
+    }
+
+    // A short fixed text.
+    pub(crate) fn text(&mut self, text: &[u8])
+        requires { (self.old.length ≤ 100) × (length text.now ≤ 100) }
+        ensures { Adds self.old text.now self.new }
+    {
+        for byte in text {
+            self.byte(*byte);
+        }
+    }
+
+    // A number in decimal.
+    pub(crate) fn number(&mut self, n: usize)
+        requires { self.old.length ≤ 100 }
+        ensures adds { Adds self.old (decimal n) self.new }
+        ensures short { self.new.length ≤ self.old.length + 20 }
+    {
+        if n >= 10 {
+            self.number(n / 10);
+        }
+        self.byte(b'0' + (n % 10) as u8);
+    }
 }

@@ -1,5 +1,0 @@
-use Rattle.report.proofs.text.+put_digits.Given as goal
-
--- proposed from what the function passes where it calls itself
-abbrev pub decreases-put_digits : goal.decreases-put_digits
-decreases-put_digits l = l.n
