@@ -6,108 +6,65 @@
 // the cases, and what its own machine does with them.
 #![tactic(auto)]
 
-mod numbers;
+mod case;
 mod show;
 
-ghost use Rattle.std.specs.Prelude.{◌<◌, ◌≤◌, length};
+use case::Case;
+use std::io::Result;
 
-use numbers::{number, numbers};
-
-// The place after the part that s starts with.
-fn end(s: &[u8]) -> usize
-    ensures { (2 ≤ result) × (result < 4294967298) }
-{
-    2 + number(s, 0, 2) as usize
-}
-
-fn part(s: &[u8]) -> &[u8] {
-    let e = end(s);
-    if e <= s.len() { &s[2..e] } else { &s[..0] }
-}
-
-// What follows the part that s starts with: nothing, where s ends inside it.
-fn rest(s: &[u8]) -> &[u8]
-    ensures { length result.now ≤ length s.now }
-{
-    let e = end(s);
-    if e <= s.len() { &s[e..] } else { &s[..0] }
+// The words of a part, low byte first, at the start of the space. None where the part has more words than there is
+// space for, or half a word.
+fn words<'a>(part: &[u8], space: &'a mut [u32]) -> Option<&'a mut [u32]> {
+    let (words, half) = part.as_chunks();
+    if !half.is_empty() {
+        return None;
+    }
+    let space = space.get_mut(..words.len())?;
+    for (to, word) in space.iter_mut().zip(words) {
+        *to = u32::from_le_bytes(*word);
+    }
+    Some(space)
 }
 
 // False where a case has more than there is space for here, or half a word.
-fn run(table: &[u8], list: &[u8], registers: &[u8], memory: &[u8], room: usize) -> bool {
-    let count = registers.len() / 4;
-    let words = memory.len() / 4;
-    if registers.len() % 4 != 0 {
-        return false;
-    }
-    if memory.len() % 4 != 0 {
-        return false;
-    }
-    if 16 < count {
-        return false;
-    }
-    if 512 < words {
-        return false;
-    }
-    if 64 < room {
-        return false;
-    }
-    let mut regs = [0u32; 16];
-    numbers(registers, 4, &mut regs);
-    let mut mem = [0u32; 512];
-    numbers(memory, 4, &mut mem);
-    let mut obs = [255u8; 64];
-    show::run(
-        table,
-        &mut regs[..count],
-        &mut mem[..words],
-        list,
-        &mut obs[..room],
-    );
-    true
+fn run(rt: &impl Print, case: &Case) -> Result<bool> {
+    let mut registers = [0; 16];
+    let mut memory = [0; 512];
+    let mut observations = [255; 64];
+    show::name(rt, case.name)?;
+    let Some(registers) = words(case.registers, &mut registers) else {
+        return Ok(false);
+    };
+    let Some(memory) = words(case.memory, &mut memory) else {
+        return Ok(false);
+    };
+    let Some(observations) = observations.get_mut(..usize::from(case.room)) else {
+        return Ok(false);
+    };
+    show::run(rt, case.table, registers, memory, case.list, observations)?;
+    Ok(true)
 }
 
-// Runs the case that s starts with. Its length; 0 where s ends inside it, or run refuses it.
-fn case(s: &[u8]) -> usize
-    ensures { result ≤ length s.now }
-{
-    let table = rest(s);
-    let list = rest(table);
-    let registers = rest(list);
-    let memory = rest(registers);
-    let room = rest(memory);
-    if room.len() == 0 {
-        return 0;
-    }
-    show::case(part(s));
-    let ran = run(
-        part(table),
-        part(list),
-        part(registers),
-        part(memory),
-        number(room, 0, 1) as usize,
-    );
-    if ran { s.len() - (room.len() - 1) } else { 0 }
-}
-
-fn cases(s: &[u8]) {
-    let mut at = 0;
-    while at < s.len() {
-        let taken = case(&s[at..]);
-        if taken == 0 {
-            show::no_case();
-            return;
+fn cases(rt: &impl Print, mut s: &[u8]) -> Result<()> {
+    while !s.is_empty() {
+        let Some((case, rest)) = Case::first(s) else {
+            return show::no_case(rt);
+        };
+        if !run(rt, &case)? {
+            return show::no_case(rt);
         }
-        at += taken;
+        s = rest;
     }
+    Ok(())
 }
 
-fn main() {
-    let mut input = [0u8; 262144];
+fn main(rt: HostRuntime) {
+    let mut input = [0; 262144];
     let n = io::read_full(0, &mut input);
-    if n < 262144 {
-        cases(&input[..n]);
+    // What cannot be written is left out.
+    let _ = if n < input.len() {
+        cases(&rt, &input[..n])
     } else {
-        show::no_case();
-    }
+        show::no_case(&rt)
+    };
 }
