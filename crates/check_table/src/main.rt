@@ -7,8 +7,8 @@
 
 ghost use Rattle.std.specs.Prelude.{◌≤◌, length, IfOk};
 
+use model::Fault;
 use std::io::{Read, Stdin};
-use typing::Verdict;
 
 // How many bytes came: all of the input, or as much as there is room for. Err: how many came before a read failed.
 fn read_input(mut stdin: Stdin, space: &mut [u8]) -> Result<usize, usize>
@@ -29,7 +29,7 @@ fn main(rt: HostRuntime) {
     let mut table = [0u8; 32769];
     let verdict = match read_input(rt.stdin(), &mut table) {
         Ok(n) => typing::check(&table[..n]),
-        Err(n) => Verdict::Refused(2, n),
+        Err(n) => Err(Fault::CutShort.at(n)),
     };
     let mut line = [0u8; 80];
     let n = report::verdict_line(verdict, &mut line);

@@ -1,19 +1,17 @@
 -- The answers as numbers, for programs in other languages: document 01's number and values for each case.
-use Rattle.std.specs.Prelude.{ℕ, ◌≡◌, List, [], ◌∷◌}
+use Rattle.std.specs.Prelude.{ℕ, ◌≡◌, List, [], ◌∷◌, Ok, Err}
 use Rattle.std.proofs.Common.{sym, ap, ◌∙◌}
 use Rattle.model.specs.Tests.{pick}
-use Rattle.typing.specs.declared.Verdict.{Verdict}
-use Rattle.typing.specs.declared.Verdict.TheVariants.{Accepted, Refused}
+use Rattle.model.specs.Numbers.{fault_number, stop_number}
+use Rattle.typing.specs.Check.{Verdict}
 use Rattle.message.specs.declared.Part.{Part}
 use Rattle.message.specs.declared.Part.TheVariants.{Table}
-use Rattle.machine.specs.declared.Outcome.{Outcome}
-use Rattle.machine.specs.declared.Outcome.TheVariants.{Stopped}
-use Rattle.machine.specs.Runs.{Ran, ran}
+use Rattle.machine.specs.Runs.{Outcome, Ran, ran}
 
 -- number (0: the table passes), place, functions
 abbrev pub verdict_numbers : Verdict → List ℕ
-verdict_numbers (Accepted functions bytes) = 0 ∷ 0 ∷ functions ∷ []
-verdict_numbers (Refused n p) = n ∷ p ∷ 0 ∷ []
+verdict_numbers (Ok a) = 0 ∷ 0 ∷ a.functions ∷ []
+verdict_numbers (Err e) = fault_number e.fault ∷ e.place ∷ 0 ∷ []
 
 -- which slice (0: the table, 1: the list), start, count
 abbrev pub part_numbers : Part → List ℕ
@@ -22,8 +20,8 @@ part_numbers (Part.List a k) = 1 ∷ a ∷ k ∷ []
 
 -- number, place, steps, misspeculating, masked
 abbrev pub outcome_numbers : Outcome → List ℕ
-outcome_numbers (Outcome.Refused n p) = n ∷ p ∷ 0 ∷ 0 ∷ 0 ∷ []
-outcome_numbers (Stopped s) = s.number ∷ s.place ∷ s.steps ∷ pick s.mis 1 0 ∷ pick s.masked 1 0 ∷ []
+outcome_numbers (Err e) = fault_number e.fault ∷ e.place ∷ 0 ∷ 0 ∷ 0 ∷ []
+outcome_numbers (Ok s) = stop_number s.stop ∷ s.place ∷ s.steps ∷ pick s.mis 1 0 ∷ pick s.masked 1 0 ∷ []
 
 -- the answer, and registers, memory and observations afterwards
 pub data Left : Type 0 where

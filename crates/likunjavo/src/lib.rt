@@ -8,9 +8,7 @@ ghost use Rattle.message.specs.Shown.{part_of};
 ghost use Rattle.machine.specs.Runs.{run_at};
 ghost use Rattle.likunjavo.specs.Numbers.{verdict_numbers, part_numbers, left, left_of};
 
-use machine::Outcome;
 use message::Part;
-use typing::Verdict;
 
 // Checks a table. The answer: the fault's number (0: the table passes), its place, and the functions of a table that
 // passes.
@@ -19,8 +17,8 @@ pub extern "C" fn likunjavo_check(table: &[u8], answer: &mut [u64; 3])
     ensures { answer.new ≡ verdict_numbers (check_at table.now) }
 {
     *answer = match typing::check(table) {
-        Verdict::Accepted(functions, _) => [0, 0, u64::from(functions)],
-        Verdict::Refused(number, place) => [u64::from(number), place as u64, 0],
+        Ok(whole) => [0, 0, u64::from(whole.functions)],
+        Err(refusal) => [u64::from(refusal.fault.number()), refusal.place as u64, 0],
     };
 }
 
@@ -57,13 +55,19 @@ pub extern "C" fn likunjavo_run(
         ≡ left_of (run_at table.now registers.old memory.old list.now observations.old) }
 {
     *answer = match machine::run(table, registers, memory, list, observations) {
-        Outcome::Refused(number, place) => [u64::from(number), place as u64, 0, 0, 0],
-        Outcome::Stopped(s) => [
-            u64::from(s.number),
-            s.place as u64,
-            s.steps as u64,
-            u64::from(s.mis),
-            u64::from(s.masked),
+        Ok(end) => [
+            u64::from(end.stop.number()),
+            end.place as u64,
+            end.steps as u64,
+            u64::from(end.mis),
+            u64::from(end.masked),
+        ],
+        Err(refusal) => [
+            u64::from(refusal.fault.number()),
+            refusal.place as u64,
+            0,
+            0,
+            0,
         ],
     };
 }

@@ -1,5 +1,5 @@
 -- Laws of digits, and of texts added to a line one after another.
-use Rattle.std.proofs.Common.{ℕ, zero, suc, ◌+◌, ◌/◌, ◌%◌, ◌^◌, ◌<◌, ◌≤◌, ◌≡◌, refl, sym, ap, ◌∙◌, List, [], ◌∷◌, ◌++◌, length, take, get_or, arith, rules, ltb, true, false, lt-ltb, le-ltb, length-append}
+use Rattle.std.proofs.Common.{ℕ, ◌+◌, ◌/◌, ◌%◌, ◌^◌, ◌<◌, ◌≤◌, ◌≡◌, refl, sym, ap, ◌∙◌, List, [], ◌∷◌, ◌++◌, length, arith, rules, lt-ltb, le-ltb, length-append}
 use Rattle.std.proofs.lemmas.Fmt.{AppendsLastDigit, decimal_from_appends, decimal_step, decimal_digit, length-decimal-le}
 use Rattle.std.specs.Fmt.{decimal as std_decimal}
 use Rattle.model.specs.Memory.{sets_append}

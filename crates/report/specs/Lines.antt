@@ -1,7 +1,7 @@
 -- Document 01: the check program's one line, "accepted F functions B bytes" or "refused N at P".
-use Rattle.std.specs.Prelude.{ℕ, List, [], ◌∷◌, ◌++◌}
-use Rattle.typing.specs.declared.Verdict.{Verdict}
-use Rattle.typing.specs.declared.Verdict.TheVariants.{Accepted, Refused}
+use Rattle.std.specs.Prelude.{ℕ, List, [], ◌∷◌, ◌++◌, Ok, Err}
+use Rattle.model.specs.Numbers.{fault_number}
+use Rattle.typing.specs.Check.{Verdict}
 use Rattle.report.specs.Text.{decimal}
 
 -- "accepted ", " functions ", " bytes" and the end of the line
@@ -24,5 +24,5 @@ abbrev pub end : List ℕ
 end = 10 ∷ []
 
 abbrev pub line_of : Verdict → List ℕ
-line_of (Accepted f b) = accepted ++ (decimal f ++ (functions ++ (decimal b ++ bytes)))
-line_of (Refused n p) = refused ++ (decimal n ++ (at ++ (decimal p ++ end)))
+line_of (Ok a) = accepted ++ (decimal a.functions ++ (functions ++ (decimal a.bytes ++ bytes)))
+line_of (Err e) = refused ++ (decimal (fault_number e.fault) ++ (at ++ (decimal e.place ++ end)))

@@ -1,15 +1,16 @@
 // The lines that the programs write: fixed byte strings around decimal numbers.
 #![tactic(auto)]
 
-ghost use Rattle.std.specs.Prelude.{◌≡◌, ◌+◌, ◌≤◌, length};
+ghost use Rattle.std.specs.Prelude.{◌≡◌, ◌+◌, ◌≤◌, length, Ok, Err};
 ghost use Rattle.std.proofs.lemmas.List.Edits.{sets};
 ghost use Rattle.report.specs.Added.{Adds};
 ghost use Rattle.report.specs.Lines.{line_of};
 
 mod text;
 
+use model::Refusal;
 use text::Line;
-use typing::Verdict;
+use typing::{Accepted, Verdict};
 
 // The check program's line, at the start of a lent buffer; how long it is. Of a buffer that is too short the line's
 // beginning is in it.
@@ -18,32 +19,32 @@ pub fn verdict_line(v: Verdict, out: &mut [u8]) -> usize
 {
     let mut line = Line::new(out);
     match v {
-        Verdict::Accepted(functions, bytes) => accepted(&mut line, functions, bytes),
-        Verdict::Refused(number, place) => refused(&mut line, number, place),
+        Ok(whole) => accepted(&mut line, whole),
+        Err(refusal) => refused(&mut line, refusal),
     }
     line.length()
 }
 
-fn accepted(line: &mut Line, functions: u8, bytes: usize)
+fn accepted(line: &mut Line, whole: Accepted)
     requires { line.old.length ≤ 20 }
-    ensures adds { Adds line.old (line_of (Verdict.Accepted functions bytes)) line.new }
+    ensures adds { Adds line.old (line_of (Ok whole)) line.new }
     ensures short { line.new.length ≤ line.old.length + 80 }
 {
     line.text(b"accepted ");
-    line.number(usize::from(functions));
+    line.number(usize::from(whole.functions));
     line.text(b" functions ");
-    line.number(bytes);
+    line.number(whole.bytes);
     line.text(b" bytes\n");
 }
 
-fn refused(line: &mut Line, number: u8, place: usize)
+fn refused(line: &mut Line, refusal: Refusal)
     requires { line.old.length ≤ 20 }
-    ensures adds { Adds line.old (line_of (Verdict.Refused number place)) line.new }
+    ensures adds { Adds line.old (line_of (Err refusal)) line.new }
     ensures short { line.new.length ≤ line.old.length + 80 }
 {
     line.text(b"refused ");
-    line.number(usize::from(number));
+    line.number(usize::from(refusal.fault.number()));
     line.text(b" at ");
-    line.number(place);
+    line.number(refusal.place);
     line.text(b"\n");
 }
