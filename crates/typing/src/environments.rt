@@ -88,37 +88,39 @@ impl From<Packed> for WordEnv {
     }
 }
 
-// e is within f, over any number of slots that both keep to.
-#[tactic(auto, using(crate::proofs::Packed::within_words_of))]
-pub(crate) fn env_within(e: WordEnv, f: WordEnv) -> bool
-    ensures { (n m : ℕ) → Whole n m (view_env e) → Whole n m (view_env f) → result ≡ within n m (view_env e) (view_env f) }
-{
-    covers_status(e.status, f.status)
-        && levels_within(e.registers, f.registers)
-        && levels_within(e.arrays, f.arrays)
-}
+impl WordEnv {
+    // Within another, over any number of slots that both keep to.
+    #[tactic(auto, using(crate::proofs::Packed::within_words_of))]
+    pub(crate) fn within(self, other: WordEnv) -> bool
+        ensures { (n m : ℕ) → Whole n m (view_env self) → Whole n m (view_env other) → result ≡ within n m (view_env self) (view_env other) }
+    {
+        covers_status(self.status, other.status)
+            && levels_within(self.registers, other.registers)
+            && levels_within(self.arrays, other.arrays)
+    }
 
-// The larger level slot by slot; equal statuses stay, others become unknown.
-pub(crate) fn join_envs(e: WordEnv, f: WordEnv) -> WordEnv
-    requires { NoThrees (view_env e) × NoThrees (view_env f) }
-    ensures { view_env result ≡ join (view_env e) (view_env f) }
-{
-    let status = join_status(e.status, f.status);
-    let registers = join_levels(e.registers, f.registers);
-    let arrays = join_levels(e.arrays, f.arrays);
-    env_from(status, registers, arrays)
-}
+    // The larger level slot by slot; equal statuses stay, others become unknown.
+    pub(crate) fn join(self, other: WordEnv) -> WordEnv
+        requires { NoThrees (view_env self) × NoThrees (view_env other) }
+        ensures { view_env result ≡ join (view_env self) (view_env other) }
+    {
+        let status = join_status(self.status, other.status);
+        let registers = join_levels(self.registers, other.registers);
+        let arrays = join_levels(self.arrays, other.arrays);
+        env_from(status, registers, arrays)
+    }
 
-// Entering a block on register r, which is not zero (true) or zero (false).
-pub(crate) fn guarded_env(e: WordEnv, r: u8, s: bool) -> WordEnv
-    ensures { view_env result ≡ guarded (view_env e) r s }
-{
-    env_from(guard_status(r, s, e.status), e.registers, e.arrays)
-}
+    // Entering a block on register r, which is not zero (true) or zero (false).
+    pub(crate) fn guarded(self, r: u8, s: bool) -> WordEnv
+        ensures { view_env result ≡ guarded (view_env self) r s }
+    {
+        env_from(guard_status(r, s, self.status), self.registers, self.arrays)
+    }
 
-// After a CALL: the callee's out levels.
-pub(crate) fn returned_env(out: WordEnv, mark: bool, e: WordEnv) -> WordEnv
-    ensures { view_env result ≡ returned (view_env out) mark (view_env e) }
-{
-    env_from(call_status(mark, out.status), out.registers, out.arrays)
+    // After a CALL that was made in this environment: the callee's out levels.
+    pub(crate) fn returned(self, out: WordEnv, mark: bool) -> WordEnv
+        ensures { view_env result ≡ returned (view_env out) mark (view_env self) }
+    {
+        env_from(call_status(mark, out.status), out.registers, out.arrays)
+    }
 }

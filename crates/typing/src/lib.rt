@@ -54,7 +54,7 @@ pub fn check(t: &[u8]) -> Verdict
     let table = ReadTable {
         table: Table { bytes: t, sizes },
     };
-    walks::functions(&table)?;
+    table.functions()?;
     Ok(Accepted {
         functions: sizes.functions,
         bytes: t.len(),

@@ -1,7 +1,7 @@
 use Rattle.std.proofs.Common.{◌≡◌, ◌+◌, ◌<◌, length, ℕ, ◌-◌, ◌*◌}
 use Rattle.typing.specs.Envs.{view_env, Fit}
 use Rattle.typing.specs.Walks.{size, block_walk}
-use Rattle.typing.proofs.walks.+block_branch_one_repeat.Given as goal
+use Rattle.typing.proofs.walks.ReadTable.+block_branch_one_repeat.Given as goal
 
 -- what falls at each call is the nesting that is left
 abbrev pub decreases-block : goal.decreases-block
@@ -19,8 +19,8 @@ decreases-repeat l = 3 * l.depth
 -- the model's walk from the start is its walk from here on, k bounding the records that are left
 abbrev pub invariant-block-loop-w : goal.invariant-block-loop-w
 invariant-block-loop-w l =
-    let z = l.t.table.sizes in
-    let t = l.t.table.bytes.now in
+    let z = l.self.table.sizes in
+    let t = l.self.table.bytes.now in
     (k : ℕ)
     × (length t - l.at < k)
     × Fit z (view_env l.e)
@@ -28,4 +28,4 @@ invariant-block-loop-w l =
 
 -- in a block it is the bytes that are left
 abbrev pub decreases-block-loop-w : goal.decreases-block-loop-w
-decreases-block-loop-w l = length l.t.table.bytes.now - l.at
+decreases-block-loop-w l = length l.self.table.bytes.now - l.at

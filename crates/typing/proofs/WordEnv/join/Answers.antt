@@ -1,12 +1,12 @@
 use native.Mathlib.Omega.{arith}
 use mathlib.Core.Path.{◌∙◌}
 use Rattle.typing.proofs.Packed.{join_slots}
-use Rattle.typing.proofs.environments.join_envs.Goals as goal
+use Rattle.typing.proofs.WordEnv.join.Goals as goal
 
 pub returns : goal.returns
 returns c =
     let a = c.args in
     let p = c.requires in
-    let regs = join_slots a.e.registers a.f.registers (omega arith) (omega arith) p.0.0 p.1.0 c.join_levels-registers.ensures in
-    let arrays = join_slots a.e.arrays a.f.arrays (omega arith) (omega arith) p.0.1 p.1.1 c.join_levels-arrays.ensures in
+    let regs = join_slots a.self.registers a.other.registers (omega arith) (omega arith) p.0.0 p.1.0 c.join_levels-registers.ensures in
+    let arrays = join_slots a.self.arrays a.other.arrays (omega arith) (omega arith) p.0.1 p.1.1 c.join_levels-arrays.ensures in
     c.env_from.ensures ∙ (λ i. record { status = c.join_status-status.ensures i; regs = regs i; arrays = arrays i })
