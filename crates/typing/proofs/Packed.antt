@@ -11,7 +11,7 @@ use borrow.Author.Tests.{lt-ltb}
 use Rattle.model.specs.Tests.{pick, put, pick_ind, all}
 use Rattle.model.specs.Levels.{levels_within, covers, within}
 use Rattle.model.specs.theory.Whole.{Whole}
-use Rattle.typing.specs.declared.WordEnv.{WordEnv}
+use Rattle.typing.specs.declared.environments.WordEnv.{WordEnv}
 use Rattle.typing.specs.Envs.{view_env}
 use Rattle.model.specs.Packing.{slot}
 use Rattle.model.specs.Rules.{settle, beside}

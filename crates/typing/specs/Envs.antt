@@ -7,7 +7,7 @@ use Rattle.model.specs.theory.Whole.{Whole}
 use Rattle.model.specs.declared.Sizes.{Sizes}
 use Rattle.model.specs.declared.Status.{Status}
 use Rattle.format.specs.Layout.{in_of, out_of}
-use Rattle.typing.specs.declared.WordEnv.{WordEnv}
+use Rattle.typing.specs.declared.environments.WordEnv.{WordEnv}
 
 -- .. of a status, and of two packed words
 abbrev pub env_from : Status → ℕ → ℕ → Env

@@ -1,14 +1,22 @@
 // Environments: within, join, and what a block's entry, a call and a packed environment make of them.
-ghost use Rattle.std.specs.Prelude.{◌≡◌, ℕ};
+ghost use Rattle.std.specs.Prelude.{◌≡◌, ℕ, eqb};
 ghost use Rattle.model.specs.Levels.{join_status, covers, join, within};
 ghost use Rattle.model.specs.Packing.{status_of, env_of};
 ghost use Rattle.model.specs.Rules.{kill, guard_status, call_status, guarded, returned};
 ghost use Rattle.model.specs.theory.Whole.{Whole, NoThrees};
 ghost use Rattle.typing.specs.Envs.{env_from, view_env};
 
-use crate::WordEnv;
-use levels::{join_levels, levels_within};
+use levels::{join_levels, level, levels_within};
 use model::{Packed, Status};
+
+// An environment: a status, and the levels of the registers and of the arrays, packed two bits a slot. The seven
+// bytes of a table hold as much, but for the status: there it is never outdated.
+#[derive(Clone, Copy)]
+pub struct WordEnv {
+    pub status: Status,
+    pub registers: u32,
+    pub arrays: u32,
+}
 
 #[tactic(auto, unfolding(model::specs::Levels::same_status))]
 fn covers_status(a: Status, b: Status) -> bool
@@ -89,10 +97,17 @@ impl From<Packed> for WordEnv {
 }
 
 impl WordEnv {
+    // Register i is public.
+    pub(crate) fn is_public(self, i: u8) -> bool
+        ensures { result ≡ eqb ((view_env self).regs i) 0 }
+    {
+        level(self.registers, i) == 0
+    }
+
     // Within another, over any number of slots that both keep to.
-    #[tactic(auto, using(crate::proofs::Packed::within_words_of))]
     pub(crate) fn within(self, other: WordEnv) -> bool
-        ensures { (n m : ℕ) → Whole n m (view_env self) → Whole n m (view_env other) → result ≡ within n m (view_env self) (view_env other) }
+        ensures { (n m : ℕ) → Whole n m (view_env self) → Whole n m (view_env other)
+            → result ≡ within n m (view_env self) (view_env other) }
     {
         covers_status(self.status, other.status)
             && levels_within(self.registers, other.registers)

@@ -4,22 +4,14 @@
 ghost use Rattle.std.specs.Prelude.{◌≡◌};
 ghost use Rattle.typing.specs.Check.{check_at};
 
+pub use environments::WordEnv;
 use layout::Table;
-use model::{Refusal, Status, Walked};
+use model::{Refusal, Walked};
 use walks::ReadTable;
 
 mod environments;
 mod rules;
 mod walks;
-
-// An environment: a status, and the levels of the registers and of the arrays, packed two bits a slot. The seven
-// bytes of a table hold as much, but for the status: there it is never outdated.
-#[derive(Clone, Copy)]
-pub struct WordEnv {
-    pub status: Status,
-    pub registers: u32,
-    pub arrays: u32,
-}
 
 // How far the walk of a record came, and the environment there.
 #[derive(Clone, Copy)]

@@ -9,6 +9,7 @@ ghost use Rattle.model.specs.theory.Whole.{NoThrees};
 ghost use Rattle.typing.specs.Envs.{view_env, Fit, Signed, Small};
 ghost use Rattle.typing.specs.Walks.{view_walk, view_end, simple_walk, call_walk, table, size, record_walk, block_walk, if_walk, while_walk, function_walk};
 
+use crate::rules::{after_simple, fault_of};
 use crate::{BlockEnd, Walk, WordEnv};
 use layout::Table;
 use model::{Fault, Packed, Record, Refusal, Simple, Walked};
@@ -28,12 +29,12 @@ impl ReadTable<'_> {
         requires { SimpleFits self.now.table.sizes.registers self.now.table.sizes.arrays s × NoThrees (view_env e) }
         ensures { view_walk result ≡ simple_walk self.now.table.sizes s at next (view_env e) }
     {
-        if let Some(fault) = e.fault_of(s) {
+        if let Some(fault) = fault_of(s, e) {
             return Err(fault.at(at));
         }
         Ok(Walk {
             to: Walked::Next(next),
-            env: e.after(self.table.sizes, s),
+            env: after_simple(self.table.sizes, s, e),
         })
     }
 
@@ -47,7 +48,8 @@ impl ReadTable<'_> {
         e: WordEnv,
     ) -> Result<Walk, Refusal>
         requires { (function < self.now.table.sizes.functions) × Fit self.now.table.sizes (view_env e) }
-        ensures { view_walk result ≡ call_walk self.now.table.sizes self.now.table.bytes.now function mark at next (view_env e) }
+        ensures { view_walk result
+            ≡ call_walk self.now.table.sizes self.now.table.bytes.now function mark at next (view_env e) }
     {
         let into = WordEnv::from(self.table.in_of(function));
         if !e.within(into) {
@@ -64,7 +66,8 @@ impl ReadTable<'_> {
     #[cycle(block_branch_one_repeat)]
     fn branch(&self, at: usize, register: u8, depth: u8, e: WordEnv) -> Result<Walk, Refusal>
         requires { (at + 4 ≤ length self.now.table.bytes.now) × Fit self.now.table.sizes (view_env e) }
-        ensures { view_walk result ≡ if_walk self.now.table.sizes self.now.table.bytes.now depth at register (view_env e) }
+        ensures { view_walk result
+            ≡ if_walk self.now.table.sizes self.now.table.bytes.now depth at register (view_env e) }
     {
         if !e.is_public(register) {
             return Err(Fault::NotPublic.at(at));
@@ -80,7 +83,8 @@ impl ReadTable<'_> {
         })
     }
 
-    // The WHILE on a register at `at`, with its loop environment. What arrives is compared before the guard is looked at.
+    // The WHILE on a register at `at`, with its loop environment. What arrives is compared before the guard is looked
+    // at.
     #[cycle(block_branch_one_repeat)]
     fn repeat(
         &self,
@@ -90,8 +94,10 @@ impl ReadTable<'_> {
         depth: u8,
         e: WordEnv,
     ) -> Result<Walk, Refusal>
-        requires { (at + 11 ≤ length self.now.table.bytes.now) × Fit self.now.table.sizes (view_env e) × Fit self.now.table.sizes (env_of packed) }
-        ensures { view_walk result ≡ while_walk self.now.table.sizes self.now.table.bytes.now depth at register packed (view_env e) }
+        requires { (at + 11 ≤ length self.now.table.bytes.now)
+            × Fit self.now.table.sizes (view_env e) × Fit self.now.table.sizes (env_of packed) }
+        ensures { view_walk result
+            ≡ while_walk self.now.table.sizes self.now.table.bytes.now depth at register packed (view_env e) }
     {
         let kept = WordEnv::from(packed);
         if !e.within(kept) {
@@ -136,7 +142,8 @@ impl ReadTable<'_> {
     #[cycle(block_branch_one_repeat)]
     fn block(&self, from: usize, depth: u8, env: WordEnv) -> Result<BlockEnd, Refusal>
         requires { Fit self.now.table.sizes (view_env env) }
-        ensures { view_end result ≡ block_walk self.now.table.sizes self.now.table.bytes.now depth (size self.now.table.sizes self.now.table.bytes.now) from (view_env env) }
+        ensures { view_end result ≡ block_walk self.now.table.sizes self.now.table.bytes.now depth
+            (size self.now.table.sizes self.now.table.bytes.now) from (view_env env) }
     {
         let mut at = from;
         let mut e = env;
@@ -171,7 +178,8 @@ impl ReadTable<'_> {
 
     // The functions in table order, up to the first fault.
     pub(crate) fn functions(&self) -> Result<(), Refusal>
-        ensures { result ≡ type_all (table self.now.table.sizes self.now.table.bytes.now) (size self.now.table.sizes self.now.table.bytes.now) }
+        ensures { result ≡ type_all (table self.now.table.sizes self.now.table.bytes.now)
+            (size self.now.table.sizes self.now.table.bytes.now) }
     {
         for g in 0..self.table.sizes.functions {
             self.function(g)?;

@@ -1,7 +1,7 @@
 use native.Mathlib.Omega.{arith}
 use mathlib.Core.Path.{◌∙◌}
 use Rattle.typing.proofs.Packed.{join_slots}
-use Rattle.typing.proofs.WordEnv.join.Goals as goal
+use Rattle.typing.proofs.environments.WordEnv.join.Goals as goal
 
 pub returns : goal.returns
 returns c =

@@ -1,4 +1,0 @@
-use Rattle.typing.proofs.WordEnv.after_store.Goals as goal
-
-pub returns : goal.returns
-returns c = simp (c.beside_levels-others.ensures, c.level-l.ensures) at c.raised.ensures
