@@ -11,10 +11,11 @@ pub struct Sources {
     texts: BTreeMap<String, String>,
 }
 
-/// A function of src/: `walks/call`.
+/// A function of src/: `walks/call`. Which module declares a method's type is not looked up: it is the method's own or lib.rt,
+/// so that the method stands in `walks/Walk` or in `Walk`.
 #[derive(Clone, Debug, PartialEq, Eq, PartialOrd, Ord)]
 pub struct Function {
-    folder: String,
+    folders: Vec<String>,
     name: String,
     /// The cycle of calls that it is said to be in, by `#[cycle(NAME)]`.
     cycle: Option<String>,
@@ -23,29 +24,31 @@ pub struct Function {
 impl Function {
     /// Its goals stand in `walks/call`, in `walks/+call` where it calls itself, or, as `call-GOAL`, in the file of its cycle.
     pub fn has(&self, goal: &Goal) -> bool {
-        let in_cycle = self.cycle.as_ref().map_or(false, |cycle| {
-            goal.home == self.place(&format!("+{}", cycle)) && goal.name.starts_with(&format!("{}-", self.name))
-        });
-        in_cycle || goal.home == self.place(&self.name) || goal.home == self.place(&format!("+{}", self.name))
+        self.folders.iter().any(|folder| {
+            let in_cycle = self.cycle.as_ref().map_or(false, |cycle| {
+                goal.home == place(folder, &format!("+{}", cycle)) && goal.name.starts_with(&format!("{}-", self.name))
+            });
+            in_cycle || goal.home == place(folder, &self.name) || goal.home == place(folder, &format!("+{}", self.name))
+        })
     }
 
     /// The proof of the function, or of its cycle, stands in that folder below proofs/.
     pub fn is_proved_in(&self, home: &str) -> bool {
         self.has(&Goal::new(home, &format!("{}-", self.name)))
     }
+}
 
-    fn place(&self, name: &str) -> String {
-        if self.folder.is_empty() {
-            name.to_string()
-        } else {
-            format!("{}/{}", self.folder, name)
-        }
+fn place(folder: &str, name: &str) -> String {
+    if folder.is_empty() {
+        name.to_string()
+    } else {
+        format!("{}/{}", folder, name)
     }
 }
 
 impl fmt::Display for Function {
     fn fmt(&self, f: &mut fmt::Formatter<'_>) -> fmt::Result {
-        f.write_str(&self.place(&self.name))
+        f.write_str(&place(&self.folders[0], &self.name))
     }
 }
 
@@ -109,10 +112,11 @@ fn function_at(module: &str, text: &str) -> Option<Function> {
         "lib" | "main" => String::new(),
         module => module.to_string(),
     };
-    let mut parts = vec![module, block.unwrap_or_default()];
-    parts.retain(|part| !part.is_empty());
-    let folder = parts.join("/");
-    Some(Function { folder, name: name.to_string(), cycle: cycle.map(str::to_string) })
+    let folders = match block {
+        Some(block) => vec![place(&module, &block), block],
+        None => vec![module],
+    };
+    Some(Function { folders, name: name.to_string(), cycle: cycle.map(str::to_string) })
 }
 
 /// `pub(crate) fn name(`, at the start of a line or, in a block, four letters on.
