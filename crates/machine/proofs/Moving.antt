@@ -1,37 +1,25 @@
 -- What becomes of the stack: the state after a step has the stack that the plan says, and only a CALL makes it longer.
-use Rattle.std.proofs.Common.{◌≡◌, ℕ, suc, ◌≤◌, Bool, eqb, List, [], ◌∷◌, length, sym, refl, ap, ◌∙◌, arith}
-use mathlib.Core.Option.{Option, none, some}
+use Rattle.std.proofs.Common.{◌≡◌, ℕ, suc, ◌≤◌, Bool, eqb, List, [], ◌∷◌, length, refl, ap, arith, Option, Some, None}
 use Rattle.model.specs.Tests.{pick_ind}
 use Rattle.model.specs.Sites.{site}
 use Rattle.model.specs.Table.{Table}
-use Rattle.model.specs.Machine.{Ctl, Data, reg, Work, halt, did, Stepped, Stop, Went, plain, onward, pop, work, fork, wrong, right, back, step_of, step}
+use Rattle.model.specs.Machine.{Ctl, Data, reg, Work, halt, did, Stepped, Stopped, Went, plain, onward, pop, work, fork, wrong, right, back, step_of, step}
 use Rattle.model.specs.declared.Directive.{Directive}
 use Rattle.model.specs.declared.Directive.TheVariants.{Plain, Branch, Stray, Back}
 use Rattle.model.specs.declared.Observation.TheVariants.{Nothing}
 use Rattle.model.specs.declared.Record.{Record}
 use Rattle.model.specs.declared.Record.TheVariants.{Do, Call, If, Else, Endif, While, Endwhile, Return}
 use Rattle.machine.specs.declared.State.{State}
-use Rattle.machine.specs.declared.Stacking.{Stacking}
 use Rattle.machine.specs.declared.Next.{Next}
-use Rattle.machine.specs.States.{stack_of, ctl_of, ctl_next, stacked, array_next}
+use Rattle.machine.specs.States.{ctl_of, ctl_next, array_next}
 
 -- what `moved` says of the state after a step
 abbrev pub Moved : State → Next → State → Type 0
 Moved s n r = (ctl_of r ≡ ctl_next s n) × (r.masked ≡ n.masked) × (r.stack ≡ array_next s n.stacking)
 
--- what `at_depth` says of a state
-abbrev pub AtDepth : Next → List ℕ → ℕ → State → Type 0
-AtDepth n xs d r = (r.place ≡ n.place) × (r.stack ≡ xs) × (r.depth ≡ d) × (r.mis ≡ n.mis) × (r.masked ≡ n.masked)
-
-pub settled : (s : State) (n : Next) (r : State) (k : Stacking) (xs : List ℕ) (d : ℕ) → n.stacking ≡ k → AtDepth n xs d r
-    → stack_of d xs ≡ stacked k (stack_of s.depth s.stack) → xs ≡ array_next s k → Moved s n r
-settled s n r k xs d e (place, row, depth, mis, masked) h y =
-    let stack : stack_of r.depth r.stack ≡ stacked n.stacking (stack_of s.depth s.stack) = (λ i. stack_of (depth i) (row i)) ∙ h ∙ sym (ap (λ (j : Stacking). stacked j (stack_of s.depth s.stack)) e) in
-    (λ i. record { place = place i; stack = stack i; mis = mis i }, masked, row ∙ y ∙ sym (ap (array_next s) e))
-
 -- ---- a step whose stack is the old one with a place more is a CALL's
 abbrev pub Grows : Record → Ctl → Stepped → Type 0
-Grows r c (Stop k) = Unit {0}
+Grows r c (Stopped k) = Unit {0}
 Grows r c (Went d x o) = (q : ℕ) → d.stack ≡ q ∷ c.stack → (f : ℕ) × (m : Bool) × (r ≡ Call f m)
 
 no_longer : (ps qs : List ℕ) (q : ℕ) → length ps ≤ length qs → ps ≡ q ∷ qs → ⊥
@@ -53,20 +41,20 @@ module _ (t : Table) where
   forks r v p q c (Back j) x = tt
 
   wrongs : (r : Record) (o : Option Bool) (q : ℕ) (c : Ctl) (x : Data) → Grows r c (wrong t o q x)
-  wrongs r none q c x = tt
-  wrongs r (some m) q c x = λ i e. absurd (no_longer [] c.stack i (omega arith) e)
+  wrongs r None q c x = tt
+  wrongs r (Some m) q c x = λ i e. absurd (no_longer [] c.stack i (omega arith) e)
 
   abbrev Popped : List ℕ → Option (List ℕ) → Type 0
-  Popped ps none = Unit {0}
-  Popped ps (some qs) = length qs ≤ length ps
+  Popped ps None = Unit {0}
+  Popped ps (Some qs) = length qs ≤ length ps
 
   pops : (ps : List ℕ) (q : ℕ) → Popped ps (pop ps q)
   pops [] q = tt
   pops (p ∷ ps) q = pick_ind (Popped (p ∷ ps)) (eqb p q) (λ _. omega arith) (λ _. tt)
 
   rights : (r : Record) (o : Option (List ℕ)) (q : ℕ) (c : Ctl) (x : Data) → Popped c.stack o → Grows r c (right t o q c x)
-  rights r none q c x l = wrongs r (site t c.place q) q c x
-  rights r (some ps) q c x l = λ i e. absurd (no_longer ps c.stack i l e)
+  rights r None q c x l = wrongs r (site t c.place q) q c x
+  rights r (Some ps) q c x l = λ i e. absurd (no_longer ps c.stack i l e)
 
   backs : (r : Record) (c : Ctl) (d : Directive) (x : Data) → Grows r c (back t c d x)
   backs r c Plain x = tt

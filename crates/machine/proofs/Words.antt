@@ -1,45 +1,60 @@
 -- Laws of the arrays' words and where they lie, of a directive list, and of an observation's bytes.
-use Rattle.std.proofs.Common.{◌≡◌, ℕ, zero, suc, ◌+◌, ◌-◌, ◌<◌, ◌≤◌, eqb, ltb, List, [], ◌∷◌, length, get_or, set, refl, ◌∙◌, subst, add-one, sub-one, arith, ltb-false, le-leb}
-use native.Mathlib.Numerals.{add-two, add-three, add-four, add_five}
-use lib.Seq.{sets}
+use Rattle.std.proofs.Common.{◌≡◌, ℕ, zero, suc, ◌+◌, ◌-◌, ◌<◌, ◌≤◌, eqb, ltb, List, [], ◌∷◌, length, get_or, set, min, sym, refl, ap, add_assoc, ◌∙◌, subst, append_assoc, drop-drop, add-one, arith, Some, None, Ok, Err, ltb-false, le-leb}
+use native.Mathlib.Decide.{dec_lt}
+use lib.Seq.{sets, sets-eq}
 use borrow.Author.Tests.{lt-leb}
 use borrow.Rule.Slice.PartMut.{mid_of, put_mid, mid_len, set_mid_at}
 use Rattle.model.specs.Tests.{pick_ind}
 use Rattle.model.specs.Memory.{offset_in}
 use Rattle.model.specs.declared.Sizes.{Sizes}
 use Rattle.model.specs.declared.Directive.{Directive}
+use Rattle.format.specs.Layout.{words_count}
+use Rattle.format.specs.Laws.{words_first}
 use Rattle.format.specs.Format.{byte, words_at, words_from}
-use Rattle.machine.specs.declared.Told.{Told}
-use Rattle.machine.specs.declared.Told.TheVariants.{Got, Bad}
-use Rattle.machine.specs.declared.Listed.{Listed}
-use Rattle.machine.specs.declared.Listed.TheVariants.{Good}
-use Rattle.machine.specs.Directives.{branch_at, stray_at, back_at, directive_at, list_from}
+use Rattle.model.specs.Numbers.{refusal}
+use Rattle.model.specs.declared.Fault.TheVariants.{BadList}
+use Rattle.machine.specs.Directives.{Told, branch_at, stray_at, back_at, directive_at, list_from}
 use Rattle.machine.specs.Runs.{total}
 
--- ---- THE ARRAYS' WORDS, one array less
-pub total_none : (z : Sizes) (t : List ℕ) (n a : ℕ) → n ≡ 0 → total (words_from z t n a) ≡ 0
-unfolding total words_from
-total_none z t n a e = rw e
-
-pub total_is : (z : Sizes) (t : List ℕ) (n a : ℕ) → (n ≡ 0 → ⊥) → total (words_from z t n a) ≡ words_at z t a + total (words_from z t (n - 1) (a + 1))
-unfolding total words_from
-total_is z t zero a h = absurd (h refl)
-total_is z t (suc n) a h = rw (sub-one, add-one a)
-
-pub offset_none : (z : Sizes) (t : List ℕ) (n b a : ℕ) → n ≡ 0 → offset_in (words_from z t n b) a ≡ 0
-unfolding offset_in words_from
-offset_none z t n b a e = rw e
-
-pub offset_first : (ws : List ℕ) (a : ℕ) → a ≡ 0 → offset_in ws a ≡ 0
+-- ---- THE ARRAYS' WORDS
+pub offset_none : (ws : List ℕ) → offset_in ws 0 ≡ 0
 unfolding offset_in
-offset_first [] a e = refl
-offset_first (w ∷ ws) a e = rw e
+offset_none [] = refl
+offset_none (w ∷ ws) = refl
 
-pub offset_is : (z : Sizes) (t : List ℕ) (n b a : ℕ) → (n ≡ 0 → ⊥) → (a ≡ 0 → ⊥) → offset_in (words_from z t n b) a ≡ words_at z t b + offset_in (words_from z t (n - 1) (b + 1)) (a - 1)
-unfolding offset_in words_from
-offset_is z t zero b a h k = absurd (h refl)
-offset_is z t (suc n) b zero h k = absurd (k refl)
-offset_is z t (suc n) b (suc a) h k = rw (sub-one (suc n), sub-one (suc a), add-one b)
+offset_next : (ws : List ℕ) (a : ℕ) → a < length ws → offset_in ws (suc a) ≡ offset_in ws a + get_or ws a 0
+unfolding offset_in
+offset_next [] a l = absurd (omega arith)
+offset_next (w ∷ ws) zero l = rw (offset_none ws) (omega arith)
+offset_next (w ∷ ws) (suc a) l = ap (λ (n : ℕ). w + n) (offset_next ws a (omega arith)) ∙ sym (add_assoc w (offset_in ws a) (get_or ws a 0))
+
+-- past the last array memory ends
+offset_end : (ws : List ℕ) (a : ℕ) → length ws ≤ a → offset_in ws a ≡ total ws
+unfolding offset_in total
+offset_end [] a l = refl
+offset_end (w ∷ ws) zero l = absurd (omega arith)
+offset_end (w ∷ ws) (suc a) l = rw (offset_end ws a (omega arith)) refl
+
+module _ (z : Sizes) (t : List ℕ) where
+  abbrev W : List ℕ
+  W = words_from z t z.arrays 0
+
+  pub offset_on : (a : ℕ) → a < z.arrays → offset_in W (a + 1) ≡ offset_in W a + words_at z t a
+  offset_on a l = rw (add-one a, offset_next W a (rw words_count l), words_first z t z.arrays a l) refl
+
+  pub offset_all : offset_in W z.arrays ≡ total W
+  offset_all = offset_end W z.arrays (rw words_count (omega arith))
+
+  pub offset_past : (a b : ℕ) → b ≡ min a z.arrays → offset_in W a ≡ offset_in W b
+  offset_past a b e = go (dec_lt a z.arrays)
+    where
+      go : Dec (a < z.arrays) → offset_in W a ≡ offset_in W b
+      go (yes l) = let h : b ≡ a = omega arith in rw h
+      go (no l) =
+          let h : b ≡ z.arrays = omega arith in
+          rw (h, offset_all) (offset_end W a (rw words_count (omega arith)))
+
+pub ruleset offsets = (offset_none, offset_on, offset_past)
 
 -- past the arrays there are no words
 pub words_out : (z : Sizes) (t : List ℕ) (n b a : ℕ) → n ≤ a → get_or (words_from z t n b) a 0 ≡ 0
@@ -66,8 +81,8 @@ stored_in ws m a i v p q e f l k =
 
 -- ---- A DIRECTIVE goes forward and stays in the list
 abbrev Onward : List ℕ → ℕ → Told → Type 0
-Onward d at (Got x n) = (at < n) × (n ≤ length d)
-Onward d at Bad = Unit {0}
+Onward d at (Some (x, n)) = (at < n) × (n ≤ length d)
+Onward d at None = Unit {0}
 
 branch_ok : (d : List ℕ) (at : ℕ) → Onward d at (branch_at d at)
 unfolding branch_at
@@ -92,30 +107,26 @@ directive_ok d at l =
     pick_ind (Onward d at) (eqb (byte d at) 98) (λ _. stray_ok d at) (λ _.
     pick_ind (Onward d at) (eqb (byte d at) 99) (λ _. back_ok d at) (λ _. tt))))
 
-pub directive_on : (d : List ℕ) (at : ℕ) {x : Directive} {next : ℕ} → at < length d → directive_at d at ≡ Got x next → (at < next) × (next ≤ length d)
+pub directive_on : (d : List ℕ) (at : ℕ) {x : Directive} {next : ℕ} → at < length d → directive_at d at ≡ Some (x, next) → (at < next) × (next ≤ length d)
 directive_on d at l e = subst (Onward d at) e (directive_ok d at l)
 
 -- a turn of the list's loop, k bounding the directives from `at` on
-pub list_end : (d : List ℕ) (k at : ℕ) → length d ≤ at → list_from k d at ≡ Good
+pub list_end : (d : List ℕ) (k at : ℕ) → length d ≤ at → list_from k d at ≡ Ok tt
 unfolding list_from
 list_end d zero at l = refl
 list_end d (suc k) at l = simp le-leb
 
-pub list_bad : (d : List ℕ) (k at : ℕ) → at < length d → length d - at ≤ k → directive_at d at ≡ Bad → list_from k d at ≡ Listed.Bad at
+pub list_bad : (d : List ℕ) (k at : ℕ) → at < length d → length d - at ≤ k → directive_at d at ≡ None → list_from k d at ≡ Err (refusal BadList at)
 unfolding list_from
 list_bad d zero at l h e = absurd (omega arith)
 list_bad d (suc k) at l h e = rw (lt-leb (length d) at l, e)
 
-pub list_next : (d : List ℕ) (k at : ℕ) {x : Directive} {next : ℕ} → at < length d → length d - at ≤ k → directive_at d at ≡ Got x next
+pub list_next : (d : List ℕ) (k at : ℕ) {x : Directive} {next : ℕ} → at < length d → length d - at ≤ k → directive_at d at ≡ Some (x, next)
     → (j : ℕ) × (length d - next ≤ j) × (list_from k d at ≡ list_from j d next)
 unfolding list_from
 list_next d zero at l h e = absurd (omega arith)
 list_next d (suc k) at l h e = let o = directive_on d at l e in (k, omega arith, rw (lt-leb (length d) at l, e))
 
--- ---- AN OBSERVATION'S BYTES, one after another
-pub two : (s : List ℕ) (at a b : ℕ) → set (set s at a) (at + 1) b ≡ sets s at (a ∷ b ∷ [])
-two s at a b = rw add-one
-
-pub six : (s : List ℕ) (at a b c d e f : ℕ)
-    → set (set (set (set (set (set s at a) (at + 1) b) (at + 2) c) (at + 3) d) (at + 4) e) (at + 5) f ≡ sets s at (a ∷ b ∷ c ∷ d ∷ e ∷ f ∷ [])
-six s at a b c d e f = rw (add-one, add-two, add-three, add-four, add_five)
+-- ---- AN OBSERVATION'S BYTES: a stretch put into a list is its bytes one after another
+pub sets_mid : (vs l : List ℕ) (i k : ℕ) → k ≡ length vs → i + k ≤ length l → put_mid i k l vs ≡ sets l i vs
+sets_mid vs l i k e h = rw (e, drop-drop, ← append_assoc) (sym (sets-eq vs l i (omega arith)))

@@ -1,7 +1,7 @@
 -- For every table that reads, typed or not, and every list of directives: wherever a run ends, and so after each of
 -- its steps, it stands at the start of a record of code, with at most 31 places on the stack and none at the entry's
 -- RETURN; and it stops only for a listed reason.
-use Rattle.std.specs.Prelude.{◌≡◌, ℕ, ◌<◌, ◌≤◌, Bool, List, [], ◌∷◌, length, refl}
+use Rattle.std.specs.Prelude.{◌≡◌, ℕ, ◌<◌, ◌≤◌, Bool, List, [], ◌∷◌, length, refl, Ok}
 use Rattle.std.proofs.Common.{arith, sym, ◌∙◌, inl, inr}
 use Rattle.model.specs.Table.{Table, entry}
 use Rattle.model.specs.Rules.{reading}
@@ -20,7 +20,6 @@ use Rattle.model.specs.declared.Directive.{Directive}
 use Rattle.format.specs.Layout.{table_of}
 use Rattle.reading.specs.Reading.{read_at}
 use Rattle.reading.specs.theory.Known.{known}
-use Rattle.reading.specs.declared.Answer.TheVariants.{Reads}
 
 -- where control stands: in a function, at a record that is met by going through its records from its start
 pub record Standing (t : Table) (c : Ctl) : Type 0 where
@@ -71,5 +70,5 @@ module _ (t : Table) (k : Known t) where
   run_standing mis ds room x = ends (run t ds room (start_ctl t mis) x) (run_stands t k ds room (start_ctl t mis) x (start_stands mis))
 
 -- EVERY TABLE THAT READS
-pub everywhere : (t : List ℕ) (z : Sizes) (e : read_at t ≡ Reads z) (mis : Bool) (ds : List Directive) (room : ℕ) (x : Data) → EndStanding (table_of t) (known t z e) (run (table_of t) ds room (start_ctl (table_of t) mis) x)
+pub everywhere : (t : List ℕ) (z : Sizes) (e : read_at t ≡ Ok z) (mis : Bool) (ds : List Directive) (room : ℕ) (x : Data) → EndStanding (table_of t) (known t z e) (run (table_of t) ds room (start_ctl (table_of t) mis) x)
 everywhere t z e mis ds room x = run_standing (table_of t) (known t z e) mis ds room x

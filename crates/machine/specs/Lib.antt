@@ -1,5 +1,6 @@
 pub mod Directives
 pub mod States
+pub mod Plans
 pub mod Runs
 pub mod Turns
 pub mod Everywhere

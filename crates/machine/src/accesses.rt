@@ -1,44 +1,53 @@
 // The word that LOAD or STORE touches.
-ghost use Rattle.std.specs.Prelude.{◌≡◌, ◌<◌};
-ghost use Rattle.format.specs.Layout.{table_with};
-ghost use Rattle.model.specs.Machine.{access, strayed};
+ghost use Rattle.std.specs.Prelude.{◌≡◌, ◌<◌, get_or};
+ghost use Rattle.machine.specs.Plans.{table_at, accessed, within};
+ghost use Rattle.model.specs.Machine.{address, strayed};
 
-use crate::makers::is_plain;
-use crate::memory::words_of;
-use model::{Access, Directive, Sizes};
+use crate::Step;
+use crate::makers::takes_plain;
+use crate::memory::{offset_of, words_of};
+use model::{Directive, Stop};
 
-// Word i of array a is asked for: which word is touched, or the stop.
-pub(crate) fn access_to(t: &[u8], z: Sizes, a: u8, i: u32, mis: bool, dir: Directive) -> Access
-    ensures { result ≡ access (table_with z t.now) a i mis dir }
-{
-    let index = i as usize;
-    if index < words_of(t, z, a) {
-        if is_plain(dir) {
-            return Access::Word(a, index);
+impl Step<'_> {
+    // Word i of array a is asked for: which word is touched, or the stop.
+    #[tactic(auto, unfolding(model::specs::Machine::access))]
+    pub(crate) fn access_to(&self, a: u8, i: u32) -> Result<(u8, usize), Stop>
+        ensures word { result ≡ accessed self.now a i }
+        ensures within { within self.now result }
+    {
+        let index = i as usize;
+        if index < words_of(self.table, a) {
+            takes_plain(self.dir)?;
+            return Ok((a, index));
         }
-        return Access::Stop(22);
-    }
-    if !mis {
-        return Access::Stop(24);
-    }
-    stray_to(t, z, dir)
-}
-
-fn stray_to(t: &[u8], z: Sizes, dir: Directive) -> Access
-    ensures { result ≡ strayed (table_with z t.now) dir }
-{
-    match dir {
-        Directive::Plain => Access::Stop(22),
-        Directive::Branch(b) => Access::Stop(22),
-        Directive::Back(p) => Access::Stop(22),
-        Directive::Stray(a, i) => {
-            if z.arrays <= a {
-                return Access::Stop(25);
-            }
-            if i < words_of(t, z, a) {
-                return Access::Word(a, i);
-            }
-            Access::Stop(25)
+        if !self.state.mis {
+            return Err(Stop::OutOfBounds);
         }
+        self.stray_to()
+    }
+
+    // Out of range, misspeculating: the directive names the word.
+    fn stray_to(&self) -> Result<(u8, usize), Stop>
+        ensures word { result ≡ strayed (table_at self.now) self.now.dir }
+        ensures within { within self.now result }
+    {
+        let Directive::Stray(a, i) = self.dir else {
+            return Err(Stop::WrongDirective);
+        };
+        if a < self.table.sizes.arrays && i < words_of(self.table, a) {
+            return Ok((a, i));
+        }
+        Err(Stop::NoSuchPlace)
+    }
+
+    // Word i of array a.
+    pub(crate) fn word_at(&self, a: u8, i: usize) -> u32
+        requires { i < 65536 }
+        ensures { result ≡ get_or self.now.mem.now (address (table_at self.now) a i) 0 }
+    {
+        self.mem
+            .get(offset_of(self.table, a) + i)
+            .copied()
+            .unwrap_or(0)
     }
 }

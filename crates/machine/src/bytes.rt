@@ -1,85 +1,76 @@
 // Directives read from bytes, observations written as bytes.
-ghost use Rattle.std.specs.Prelude.{◌≡◌, ◌+◌, ◌<◌, ◌≤◌, length, slice_set};
+ghost use Rattle.std.specs.Prelude.{◌≡◌, ◌+◌, ◌<◌, ◌≤◌, length};
 ghost use Rattle.std.proofs.lemmas.List.Edits.{sets};
 ghost use Rattle.machine.specs.Directives.{branch_at, stray_at, back_at, directive_at, list_at, bytes_of};
 ghost use Rattle.model.specs.Machine.{size};
-ghost use Rattle.model.specs.Tests.{pick};
 
-use crate::{Listed, Told};
-use model::{Directive, Observation};
+use format::place_at;
+use model::{Directive, Fault, Observation, Refusal};
 
-// The directive at `at`.
-pub(crate) fn directive_at(d: &[u8], at: usize) -> Told
+// The directive at `at`, and the place after it; nothing where a bad one stands there.
+#[tactic(auto, unfolding(crate::specs::Directives::directive_at))]
+pub(crate) fn directive_at(d: &[u8], at: usize) -> Option<(Directive, usize)>
     requires { at < length d.now }
     ensures { result ≡ directive_at d.now at }
 {
-    let kind = d[at];
-    match kind {
-        0x60 => Told::Got(Directive::Plain, at + 1),
+    match d[at] {
+        0x60 => Some((Directive::Plain, at + 1)),
         0x61 => branch_at(d, at),
         0x62 => stray_at(d, at),
         0x63 => back_at(d, at),
-        _ => Told::Bad,
+        _ => None,
     }
 }
 
-fn branch_at(d: &[u8], at: usize) -> Told
+#[tactic(auto, unfolding(crate::specs::Directives::branch_at))]
+fn branch_at(d: &[u8], at: usize) -> Option<(Directive, usize)>
     requires { at < length d.now }
     ensures { result ≡ branch_at d.now at }
 {
-    if d.len() - at < 2 {
-        return Told::Bad;
-    }
-    let way = d[at + 1];
+    let way = *d.get(at + 1)?;
     if 2 <= way {
-        return Told::Bad;
+        return None;
     }
-    Told::Got(Directive::Branch(way == 1), at + 2)
+    Some((Directive::Branch(way == 1), at + 2))
 }
 
-fn stray_at(d: &[u8], at: usize) -> Told
+#[tactic(auto, unfolding(crate::specs::Directives::stray_at))]
+fn stray_at(d: &[u8], at: usize) -> Option<(Directive, usize)>
     requires { at < length d.now }
     ensures { result ≡ stray_at d.now at }
 {
     if d.len() - at < 4 {
-        return Told::Bad;
+        return None;
     }
-    let array = d[at + 1];
-    let index = format::place_at(d, at + 2);
-    Told::Got(Directive::Stray(array, index), at + 4)
+    Some((Directive::Stray(d[at + 1], place_at(d, at + 2)), at + 4))
 }
 
-fn back_at(d: &[u8], at: usize) -> Told
+#[tactic(auto, unfolding(crate::specs::Directives::back_at))]
+fn back_at(d: &[u8], at: usize) -> Option<(Directive, usize)>
     requires { at < length d.now }
     ensures { result ≡ back_at d.now at }
 {
     if d.len() - at < 3 {
-        return Told::Bad;
+        return None;
     }
-    let place = format::place_at(d, at + 1);
-    Told::Got(Directive::Back(place), at + 3)
+    Some((Directive::Back(place_at(d, at + 1)), at + 3))
 }
 
 // The whole list, before the first step: too long, or a bad directive, is 16.
-pub(crate) fn list_fault(d: &[u8]) -> Listed
+pub(crate) fn list_fault(d: &[u8]) -> Result<(), Refusal>
     ensures { result ≡ list_at d.now }
 {
     if 16384 < d.len() {
-        return Listed::Bad(0);
+        return Err(Fault::BadList.at(0));
     }
     let mut at = 0;
     while at < d.len() {
-        let told = directive_at(d, at);
-        match told {
-            Told::Bad => {
-                return Listed::Bad(at);
-            }
-            Told::Got(x, next) => {
-                at = next;
-            }
-        }
+        let Some((_, next)) = directive_at(d, at) else {
+            return Err(Fault::BadList.at(at));
+        };
+        at = next;
     }
-    Listed::Good
+    Ok(())
 }
 
 // How many bytes an observation takes.
@@ -88,23 +79,9 @@ pub(crate) fn size_of(o: Observation) -> usize
 {
     match o {
         Observation::Nothing => 1,
-        Observation::Way(b) => 2,
-        Observation::Address(a, i) => 6,
+        Observation::Way(_) => 2,
+        Observation::Address(..) => 6,
     }
-}
-
-fn put(s: &mut [u8], i: usize, v: u8)
-    ensures { s.new ≡ slice_set s.old i v }
-{
-    if i < s.len() {
-        s[i] = v;
-    }
-}
-
-fn bit(b: bool) -> u8
-    ensures { result ≡ pick b 1 0 }
-{
-    if b { 1 } else { 0 }
 }
 
 // An observation's bytes, where there is room for them.
@@ -113,18 +90,15 @@ pub(crate) fn put_observation(s: &mut [u8], at: usize, o: Observation)
     ensures { s.new ≡ sets s.old at (bytes_of o) }
 {
     match o {
-        Observation::Nothing => put(s, at, 0x70),
+        Observation::Nothing => s[at] = 0x70,
         Observation::Way(b) => {
-            put(s, at, 0x71);
-            put(s, at + 1, bit(b));
+            s[at] = 0x71;
+            s[at + 1] = u8::from(b);
         }
         Observation::Address(a, i) => {
-            put(s, at, 0x72);
-            put(s, at + 1, a);
-            put(s, at + 2, (i % 256) as u8);
-            put(s, at + 3, (i / 256 % 256) as u8);
-            put(s, at + 4, (i / 65536 % 256) as u8);
-            put(s, at + 5, (i / 16777216 % 256) as u8);
+            s[at] = 0x72;
+            s[at + 1] = a;
+            s[at + 2..at + 6].copy_from_slice(&i.to_le_bytes());
         }
     }
 }

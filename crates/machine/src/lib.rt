@@ -13,25 +13,14 @@ mod states;
 mod steps;
 mod values;
 
-ghost use Rattle.std.specs.Prelude.{◌≡◌};
-ghost use Rattle.machine.specs.Runs.{ran, run_at};
+ghost use Rattle.std.specs.Prelude.{◌≡◌, ◌≤◌, Ok, length};
+ghost use Rattle.std.proofs.Props.{props};
+ghost use Rattle.reading.specs.Reading.{read_at};
+ghost use Rattle.machine.specs.Runs.{ran, run_at, total};
+ghost use Rattle.machine.specs.States.{words_in};
 
-use model::{Directive, Observation, Sizes};
-use reading::Answer;
-
-// A directive with the place after it in the list, or a bad one.
-#[derive(Clone, Copy)]
-pub enum Told {
-    Got(Directive, usize),
-    Bad,
-}
-
-// A directive list without fault, or the first bad directive.
-#[derive(Clone, Copy)]
-pub enum Listed {
-    Good,
-    Bad(usize),
-}
+use layout::Table;
+use model::{Directive, Fault, Observation, Refusal, Stop};
 
 // The machine's state beside registers and memory. The stack never needs more than 31 places; with a 32nd, and at the
 // front, it is copied as four whole vector registers. So the state stands first where it is a field, too.
@@ -70,80 +59,71 @@ pub struct Next {
     pub masked: bool,
 }
 
-// What a step would do, worked out before anything changes. Where stop is not 0, that is all it says.
+// What a step would do, worked out before anything changes.
 #[derive(Clone, Copy)]
 pub struct Plan {
-    pub stop: u8,
     pub next: Next,
     pub effect: Effect,
     pub seen: Observation,
 }
 
-// A place that follows a CALL, with the CALL's mark.
+// What one step looks at: the table, the state before it, the directive that it uses, registers and memory.
 #[derive(Clone, Copy)]
-pub enum Site {
-    Marked(bool),
-    Nowhere,
+pub(crate) struct Step<'a> {
+    pub table: &'a Table<'a>,
+    pub state: &'a State,
+    pub dir: Directive,
+    pub regs: &'a [u32],
+    pub mem: &'a [u32],
 }
 
-// What the step under one directive did: stop is 0 where it was made. Then the state after it, and the bytes observed.
-#[derive(Clone, Copy)]
-pub struct Acted {
-    pub state: State,
-    pub stop: u8,
+// The machine of a run: a table that reads, what is lent (registers, memory of the table's words, and a buffer for what
+// is observed), and how much of the buffer is written.
+#[derive(Drop)]
+pub(crate) struct Machine<'a> {
+    pub table: &'a Table<'a>,
+    pub regs: &'a mut [u32],
+    pub mem: &'a mut [u32],
+    pub obs: &'a mut [u8],
     pub seen: usize,
+    pub ghost reads: { read_at table.now.bytes.now ≡ Ok table.now.sizes } by { Prim.hlevel props },
+    pub ghost long: { length mem.now ≡ total (words_in table.now) },
+    pub ghost within: { seen ≤ length obs.now },
 }
 
-// What a step answers where its state is lent: stop is 0 where it was made; the bytes observed.
+// How a run ended: why, the place it stands at, the steps taken, misspeculating, the flag.
 #[derive(Clone, Copy)]
-pub struct Took {
-    pub stop: u8,
-    pub seen: usize,
-}
-
-// One turn: the same, with the next directive's place.
-#[derive(Clone, Copy)]
-pub struct Turn {
-    pub state: State,
-    pub stop: u8,
-    pub at: usize,
-    pub seen: usize,
-}
-
-// How a run ended: the stop, the place it stands at, the steps taken, misspeculating, the flag.
-#[derive(Clone, Copy)]
-pub struct Stop {
-    pub number: u8,
+pub struct End {
+    pub stop: Stop,
     pub place: usize,
     pub steps: usize,
     pub mis: bool,
     pub masked: bool,
 }
 
-// What a run answers.
-#[derive(Clone, Copy)]
-pub enum Outcome {
-    Refused(u8, usize),
-    Stopped(Stop),
-}
+// What a run answers: a refusal before its first step, or how it ended.
+pub type Outcome = Result<End, Refusal>;
 
 // Runs a table over lent registers and memory, and writes observations into a lent buffer. Every refusal leaves all
 // three as they were; a run leaves exactly the effects of the steps it took.
+#[tactic(auto, unfolding(crate::specs::Runs::run_at))]
 pub fn run(t: &[u8], regs: &mut [u32], mem: &mut [u32], dirs: &[u8], obs: &mut [u8]) -> Outcome
     ensures { ran result regs.new mem.new obs.new ≡ run_at t.now regs.old mem.old dirs.now obs.old }
 {
-    let a = reading::read(t);
-    match a {
-        Answer::Refused(n, p) => Outcome::Refused(n, p),
-        Answer::Reads(z) => {
-            if !memory::fits(t, z, regs.len(), mem.len()) {
-                return Outcome::Refused(15, 0);
-            }
-            let l = bytes::list_fault(dirs);
-            match l {
-                Listed::Bad(p) => Outcome::Refused(16, p),
-                Listed::Good => Outcome::Stopped(steps::all_steps(t, z, regs, mem, dirs, obs)),
-            }
-        }
+    let table = Table {
+        bytes: t,
+        sizes: reading::read(t)?,
+    };
+    if !memory::fits(&table, regs.len(), mem.len()) {
+        return Err(Fault::WrongLengths.at(0));
     }
+    bytes::list_fault(dirs)?;
+    let mut machine = Machine {
+        table: &table,
+        regs,
+        mem,
+        obs,
+        seen: 0,
+    };
+    Ok(machine.all_steps(dirs))
 }

@@ -1,75 +1,51 @@
-// Plans made of their parts: a stop, a step that goes on, a step under the plain directive.
-ghost use Rattle.std.specs.Prelude.{◌≡◌, true};
-ghost use Rattle.machine.specs.States.{ctl_of, ctl_next, view_plan, is_plain, plainly, Lands};
-ghost use Rattle.model.specs.Machine.{Data, to};
-ghost use Rattle.model.specs.Table.{Table};
+// What records of code have in common: registers, the place that control goes on at, a plan under 60.
+ghost use Rattle.std.specs.Prelude.{◌≡◌, get_or};
+ghost use Rattle.machine.specs.Plans.{table_at, ctl_at, data_at, planned, goes_on, lands_in, takes_plain};
+ghost use Rattle.machine.specs.States.{applied, ctl_next, Lands};
+ghost use Rattle.model.specs.Machine.{did, flagged, onward, plain};
 
-use crate::{Effect, Next, Plan, Stacking, State};
-use model::{Directive, Observation};
+use crate::{Effect, Next, Plan, Stacking, Step};
+use model::{Directive, Observation, Stop};
 
-pub(crate) fn stop(number: u8) -> Plan
-    ensures { (result.stop ≡ number) × (result.effect ≡ Effect.None) }
+// The directive is 60; any other is 22.
+pub(crate) fn takes_plain(dir: Directive) -> Result<(), Stop>
+    ensures { result ≡ takes_plain dir }
 {
-    Plan {
-        stop: number,
-        next: Next {
-            place: 0,
+    match dir {
+        Directive::Plain => Ok(()),
+        _ => Err(Stop::WrongDirective),
+    }
+}
+
+impl Step<'_> {
+    // The word in register r; 0 past the end.
+    pub(crate) fn reg(&self, r: u8) -> u32
+        ensures { result ≡ get_or self.now.regs.now r 0 }
+    {
+        self.regs.get(usize::from(r)).copied().unwrap_or(0)
+    }
+
+    // On at a place, and all else of the state as it is.
+    pub(crate) fn at(&self, place: usize) -> Next
+        ensures { result ≡ goes_on self.now place }
+    {
+        Next {
+            place,
             stacking: Stacking::Same,
-            mis: false,
-            masked: false,
-        },
-        effect: Effect::None,
-        seen: Observation::Nothing,
+            mis: self.state.mis,
+            masked: self.state.masked,
+        }
     }
-}
 
-pub(crate) fn go(next: Next, effect: Effect, seen: Observation) -> Plan
-    ensures { (result.stop ≡ 0) × (result.next ≡ next) × (result.effect ≡ effect) × (result.seen ≡ seen) }
-{
-    Plan {
-        stop: 0,
-        next,
-        effect,
-        seen,
+    // A record that takes 60.
+    pub(crate) fn plain(&self, next: Next, effect: Effect, seen: Observation) -> Result<Plan, Stop>
+        ensures plans { planned self.now result ≡ onward
+            (plain self.now.dir
+            (did (flagged (applied (table_at self.now) effect (data_at self.now)) next.masked) seen))
+            (ctl_next self.now.state.now next) }
+        ensures lands { Lands (table_at self.now) effect → lands_in self.now result }
+    {
+        takes_plain(self.dir)?;
+        Ok(Plan { next, effect, seen })
     }
-}
-
-pub(crate) fn at_place(s: State, place: usize, masked: bool) -> Next
-    ensures { (ctl_next s result ≡ to (ctl_of s) place) × (result.masked ≡ masked) }
-{
-    Next {
-        place,
-        stacking: Stacking::Same,
-        mis: s.mis,
-        masked,
-    }
-}
-
-pub(crate) fn is_plain(d: Directive) -> bool
-    ensures { result ≡ is_plain d }
-{
-    match d {
-        Directive::Plain => true,
-        Directive::Branch(b) => false,
-        Directive::Stray(a, i) => false,
-        Directive::Back(p) => false,
-    }
-}
-
-// A record that takes 60 and goes on at a place.
-pub(crate) fn plain_to(
-    s: State,
-    dir: Directive,
-    place: usize,
-    effect: Effect,
-    masked: bool,
-    seen: Observation,
-) -> Plan
-    ensures plans { (t : Table) (x : Data) → view_plan t s result x ≡ plainly t dir s place effect masked seen x }
-    ensures lands { (t : Table) → Lands t effect → Lands t result.effect }
-{
-    if is_plain(dir) {
-        return go(at_place(s, place, masked), effect, seen);
-    }
-    stop(22)
 }

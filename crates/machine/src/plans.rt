@@ -1,60 +1,75 @@
 // What one step would do, worked out on plain values before anything changes: the stop, or where it leads, the one
 // word that changes, and the observation. The stack's array is looked at and never copied.
-ghost use Rattle.std.specs.Prelude.{◌≡◌, ℕ, ◌+◌, ◌≤◌, List, length};
-ghost use Rattle.format.specs.Layout.{table_with};
-ghost use Rattle.machine.specs.States.{ctl_of, data_of, view_plan, Lands};
-ghost use Rattle.model.specs.Machine.{to, pass, step};
-ghost use Rattle.model.specs.Table.{Table};
+ghost use Rattle.std.specs.Prelude.{◌≡◌, ◌≤◌, length};
+ghost use Rattle.format.specs.Format.{decode_at};
+ghost use Rattle.machine.specs.Plans.{table_at, ctl_at, data_at, planned, lands_in, Due, IsDue};
+ghost use Rattle.machine.specs.States.{ctl_of, data_of, view_plan, LandsIn, table_in};
+ghost use Rattle.model.specs.Machine.{step, step_of, to, pass};
 
-use crate::control::{call, forked};
-use crate::makers::plain_to;
-use crate::memory::get;
-use crate::returns::returning;
-use crate::simple_records::simple;
-use crate::{Effect, Plan, State};
-use format::Decoded;
-use model::{Directive, Observation, Record, Sizes};
+use crate::{Effect, Plan, State, Step};
+use layout::Table;
+use model::{Directive, Observation, Record, Refusal, Sizes, Stop};
 
-fn pass_to(s: State, dir: Directive, place: usize) -> Plan
-    ensures plans { (t : Table) (m n : List ℕ) → view_plan t s result (data_of s m n) ≡ pass t dir (data_of s m n) (to (ctl_of s) place) }
-    ensures lands { (t : Table) → Lands t result.effect }
+// The record due at a place, and the place after it. The bytes are a parameter by themselves, since only there it is
+// known what their type says: each is below 256, and so a place that a record names is below 65536.
+fn due(bytes: &[u8], sizes: Sizes, place: usize) -> Result<(Record, usize), Refusal>
+    requires { length bytes.now ≤ 32768 }
+    ensures { (result ≡ decode_at sizes bytes.now place) × IsDue sizes bytes.now place result }
 {
-    let masked = s.masked;
-    plain_to(s, dir, place, Effect::None, masked, Observation::Nothing)
+    records::decode(&Table { bytes, sizes }, place)
 }
 
 // What the record at the state's place would do under the directive. Where none can be read, RETURN stands for it.
-pub(crate) fn plan(t: &[u8], z: Sizes, s: State, dir: Directive, regs: &[u32], mem: &[u32]) -> Plan
-    requires { length t.now ≤ 32768 }
-    ensures plans { view_plan (table_with z t.now) s result (data_of s regs.now mem.now)
-        ≡ step (table_with z t.now) (ctl_of s) dir (data_of s regs.now mem.now) }
-    ensures lands { Lands (table_with z t.now) result.effect }
+pub(crate) fn plan(
+    table: &Table,
+    state: &State,
+    dir: Directive,
+    regs: &[u32],
+    mem: &[u32],
+) -> Result<Plan, Stop>
+    requires { length table.now.bytes.now ≤ 32768 }
+    ensures plans { view_plan (table_in table.now) state.now result (data_of state.now regs.now mem.now)
+        ≡ step (table_in table.now) (ctl_of state.now) dir (data_of state.now regs.now mem.now) }
+    ensures lands { LandsIn (table_in table.now) result }
 {
-    let place = s.place;
-    let d = records::decode(t, place, z);
-    match d {
-        Decoded::Fault(n, p) => returning(t, z, s, dir),
-        Decoded::Got(r, next) => match r {
-            Record::Do(x) => simple(t, z, s, next, dir, regs, mem, x),
-            Record::Call { function, mark } => call(s, next, dir, layout::start_of(t, z, function)),
-            Record::If { register, to } => forked(
-                s,
-                dir,
-                get(regs, register as usize),
-                next,
-                to + 3,
-            ),
-            Record::Else { to } => pass_to(s, dir, to + 1),
-            Record::Endif => pass_to(s, dir, next),
-            Record::While { register, to, env } => forked(
-                s,
-                dir,
-                get(regs, register as usize),
-                next,
-                to + 3,
-            ),
-            Record::Endwhile { to } => pass_to(s, dir, to),
-            Record::Return => returning(t, z, s, dir),
-        },
+    let step = Step {
+        table,
+        state,
+        dir,
+        regs,
+        mem,
+    };
+    match due(table.bytes, table.sizes, state.place) {
+        Ok((r, next)) => step.by_record(r, next),
+        Err(_) => step.returning(),
+    }
+}
+
+impl Step<'_> {
+    // What a record would do, with the place after it.
+    fn by_record(&self, r: Record, next: usize) -> Result<Plan, Stop>
+        requires { Due self.now.table.now.sizes self.now.table.now.bytes.now self.now.state.now.place r next }
+        ensures plans { planned self.now result
+            ≡ step_of (table_at self.now) r (ctl_at self.now) self.now.dir (data_at self.now) }
+        ensures lands { lands_in self.now result }
+    {
+        match r {
+            Record::Do(x) => self.simple(next, x),
+            Record::Call { function, .. } => self.call(next, self.table.start_of(function)),
+            Record::If { register, to } => self.forked(self.reg(register), next, to + 3),
+            Record::Else { to } => self.pass_to(to + 1),
+            Record::Endif => self.pass_to(next),
+            Record::While { register, to, .. } => self.forked(self.reg(register), next, to + 3),
+            Record::Endwhile { to } => self.pass_to(to),
+            Record::Return => self.returning(),
+        }
+    }
+
+    fn pass_to(&self, place: usize) -> Result<Plan, Stop>
+        ensures plans { planned self.now result
+            ≡ pass (table_at self.now) self.now.dir (data_at self.now) (to (ctl_at self.now) place) }
+        ensures lands { lands_in self.now result }
+    {
+        self.plain(self.at(place), Effect::None, Observation::Nothing)
     }
 }

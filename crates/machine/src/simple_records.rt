@@ -1,243 +1,138 @@
 // The plans of simple records, each with the place after it.
-ghost use Rattle.std.specs.Prelude.{◌≡◌, ℕ, ◌<◌, true, List, slice_index};
-ghost use Rattle.format.specs.Format.{words_from};
-ghost use Rattle.format.specs.Layout.{table_with};
-ghost use Rattle.machine.specs.States.{ctl_of, data_of, view_plan, plainly, Lands};
-ghost use Rattle.model.specs.Machine.{Data, words_of, truth, operate, work, onward, to, right};
+ghost use Rattle.std.specs.Prelude.{◌≡◌, ◌<◌};
+ghost use Rattle.machine.specs.Plans.{table_at, planned, works, writes, lands_in};
+ghost use Rattle.machine.specs.States.{words_in};
+ghost use Rattle.model.specs.Machine.{words_of};
 ghost use Rattle.model.specs.Records.{SimpleReaches};
-ghost use Rattle.model.specs.Table.{Table};
-ghost use Rattle.model.specs.Tests.{pick};
 
-use crate::accesses::access_to;
-use crate::makers::{at_place, go, plain_to, stop};
-use crate::memory::{get, word_at};
-use crate::values::{choose, condition, is_true, operation};
-use crate::{Effect, Plan, State};
-use model::{Access, Directive, Observation, Simple, Sizes};
+use crate::values::operate;
+use crate::{Effect, Next, Plan, Step};
+use model::{Observation, Simple, Stop};
 
-fn load(
-    t: &[u8],
-    z: Sizes,
-    s: State,
-    next: usize,
-    dir: Directive,
-    regs: &[u32],
-    mem: &[u32],
-    dest: u8,
-    array: u8,
-    index: u8,
-) -> Plan
-    ensures plans { view_plan (table_with z t.now) s result (data_of s regs.now mem.now)
-        ≡ onward (work (table_with z t.now) (Simple.Load dest array index) dir s.mis (data_of s regs.now mem.now)) (to (ctl_of s) next) }
-    ensures lands { Lands (table_with z t.now) result.effect }
-{
-    let i = get(regs, index as usize);
-    let mis = s.mis;
-    let a = access_to(t, z, array, i, mis, dir);
-    match a {
-        Access::Stop(n) => stop(n),
-        Access::Word(b, j) => {
-            let v = word_at(t, z, mem, b, j);
-            let masked = s.masked;
-            go(
-                at_place(s, next, masked),
-                Effect::Register(dest, v),
-                Observation::Address(array, i),
-            )
-        }
+impl Step<'_> {
+    fn load(&self, next: usize, dest: u8, array: u8, index: u8) -> Result<Plan, Stop>
+        ensures plans { planned self.now result ≡ works self.now next (Simple.Load dest array index) }
+        ensures lands { lands_in self.now result }
+    {
+        let i = self.reg(index);
+        let (from, word) = self.access_to(array, i)?;
+        Ok(Plan {
+            next: self.at(next),
+            effect: Effect::Register(dest, self.word_at(from, word)),
+            seen: Observation::Address(array, i),
+        })
     }
-}
 
-fn store(
-    t: &[u8],
-    z: Sizes,
-    s: State,
-    next: usize,
-    dir: Directive,
-    regs: &[u32],
-    array: u8,
-    index: u8,
-    source: u8,
-) -> Plan
-    ensures plans { (m : List ℕ) → view_plan (table_with z t.now) s result (data_of s regs.now m)
-        ≡ onward (work (table_with z t.now) (Simple.Store array index source) dir s.mis (data_of s regs.now m)) (to (ctl_of s) next) }
-    ensures lands { Lands (table_with z t.now) result.effect }
-{
-    let i = get(regs, index as usize);
-    let mis = s.mis;
-    let a = access_to(t, z, array, i, mis, dir);
-    match a {
-        Access::Stop(n) => stop(n),
-        Access::Word(b, j) => {
-            let v = get(regs, source as usize);
-            let masked = s.masked;
-            go(
-                at_place(s, next, masked),
-                Effect::Word(b, j, v),
-                Observation::Address(array, i),
-            )
-        }
+    fn store(&self, next: usize, array: u8, index: u8, source: u8) -> Result<Plan, Stop>
+        ensures plans { planned self.now result ≡ works self.now next (Simple.Store array index source) }
+        ensures lands { lands_in self.now result }
+    {
+        let i = self.reg(index);
+        let (to, word) = self.access_to(array, i)?;
+        Ok(Plan {
+            next: self.at(next),
+            effect: Effect::Word(to, word, self.reg(source)),
+            seen: Observation::Address(array, i),
+        })
     }
-}
 
-// A fixed access: the word that the record names, whatever the path.
-fn load_fixed(
-    t: &[u8],
-    z: Sizes,
-    s: State,
-    next: usize,
-    dir: Directive,
-    mem: &[u32],
-    dest: u8,
-    array: u8,
-    index: u16,
-) -> Plan
-    ensures plans { (m : List ℕ) → view_plan (table_with z t.now) s result (data_of s m mem.now)
-        ≡ onward (work (table_with z t.now) (Simple.LoadFixed dest array index) dir s.mis (data_of s m mem.now)) (to (ctl_of s) next) }
-    ensures lands { (t : Table) → Lands t result.effect }
-{
-    let v = word_at(t, z, mem, array, index as usize);
-    let masked = s.masked;
-    let seen = Observation::Address(array, index as u32);
-    plain_to(s, dir, next, Effect::Register(dest, v), masked, seen)
-}
-
-fn store_fixed(
-    s: State,
-    next: usize,
-    dir: Directive,
-    regs: &[u32],
-    array: u8,
-    index: u16,
-    source: u8,
-) -> Plan
-    ensures plans { (t : Table) (m : List ℕ) → view_plan t s result (data_of s regs.now m)
-        ≡ onward (work t (Simple.StoreFixed array index source) dir s.mis (data_of s regs.now m)) (to (ctl_of s) next) }
-    ensures lands { (t : Table) → index < words_of t array → Lands t result.effect }
-{
-    let v = get(regs, source as usize);
-    let masked = s.masked;
-    let seen = Observation::Address(array, index as u32);
-    plain_to(
-        s,
-        dir,
-        next,
-        Effect::Word(array, index as usize, v),
-        masked,
-        seen,
-    )
-}
-
-fn init(s: State, next: usize, dir: Directive) -> Plan
-    ensures plans { (t : Table) (m n : List ℕ) → view_plan t s result (data_of s m n) ≡ onward (work t Simple.Init dir s.mis (data_of s m n)) (to (ctl_of s) next) }
-    ensures lands { (t : Table) → Lands t result.effect }
-{
-    if s.mis {
-        return stop(23);
+    // A fixed access: the word that the record names, whatever the path.
+    fn load_fixed(&self, next: usize, dest: u8, array: u8, index: u16) -> Result<Plan, Stop>
+        ensures plans { planned self.now result ≡ works self.now next (Simple.LoadFixed dest array index) }
+        ensures lands { lands_in self.now result }
+    {
+        let value = self.word_at(array, usize::from(index));
+        let seen = Observation::Address(array, u32::from(index));
+        self.plain(self.at(next), Effect::Register(dest, value), seen)
     }
-    plain_to(s, dir, next, Effect::None, false, Observation::Nothing)
-}
 
-fn updated(s: State, next: usize, dir: Directive, held: bool) -> Plan
-    ensures plans { (t : Table) (x : Data) → view_plan t s result x ≡ plainly t dir s next Effect.None (pick held s.masked true) Observation.Nothing x }
-    ensures lands { (t : Table) → Lands t result.effect }
-{
-    if held {
-        let masked = s.masked;
-        return plain_to(s, dir, next, Effect::None, masked, Observation::Nothing);
+    fn store_fixed(&self, next: usize, array: u8, index: u16, source: u8) -> Result<Plan, Stop>
+        ensures plans { planned self.now result ≡ works self.now next (Simple.StoreFixed array index source) }
+        ensures lands { index < words_of (table_at self.now) array → lands_in self.now result }
+    {
+        let effect = Effect::Word(array, usize::from(index), self.reg(source));
+        let seen = Observation::Address(array, u32::from(index));
+        self.plain(self.at(next), effect, seen)
     }
-    plain_to(s, dir, next, Effect::None, true, Observation::Nothing)
-}
 
-// A register is written: the value that a record other than the loads gives its dest.
-fn write(s: State, next: usize, dir: Directive, dest: u8, v: u32) -> Plan
-    ensures plans { (t : Table) (x : Data) → view_plan t s result x ≡ plainly t dir s next (Effect.Register dest v) s.masked Observation.Nothing x }
-    ensures lands { (t : Table) → Lands t result.effect }
-{
-    let masked = s.masked;
-    plain_to(
-        s,
-        dir,
-        next,
-        Effect::Register(dest, v),
-        masked,
-        Observation::Nothing,
-    )
-}
-
-// The value that OP gives its dest.
-fn operated(regs: &[u32], op: u8, left: u8, right: u8) -> u32
-    ensures { result ≡ operate op (slice_index regs.now left) (slice_index regs.now right) }
-{
-    operation(op, get(regs, left as usize), get(regs, right as usize))
-}
-
-// The value that SELECT gives its dest.
-fn selected(regs: &[u32], cond: u8, yes: u8, no: u8) -> u32
-    ensures { result ≡ pick (truth (slice_index regs.now cond)) (slice_index regs.now yes) (slice_index regs.now no) }
-{
-    let c = is_true(get(regs, cond as usize));
-    choose(c, get(regs, yes as usize), get(regs, no as usize))
-}
-
-// The value that PROTECT gives its dest.
-fn shielded(s: State, regs: &[u32], source: u8) -> u32
-    ensures { result ≡ pick s.masked 4294967295 (slice_index regs.now source) }
-{
-    let masked = s.masked;
-    choose(masked, 4294967295, get(regs, source as usize))
-}
-
-pub(crate) fn simple(
-    t: &[u8],
-    z: Sizes,
-    s: State,
-    next: usize,
-    dir: Directive,
-    regs: &[u32],
-    mem: &[u32],
-    r: Simple,
-) -> Plan
-    requires { SimpleReaches (words_from z t.now z.arrays 0) r }
-    ensures plans { view_plan (table_with z t.now) s result (data_of s regs.now mem.now)
-        ≡ onward (work (table_with z t.now) r dir s.mis (data_of s regs.now mem.now)) (to (ctl_of s) next) }
-    ensures lands { Lands (table_with z t.now) result.effect }
-{
-    match r {
-        Simple::Const { dest, value } => write(s, next, dir, dest, value),
-        Simple::Op {
-            dest,
-            op,
-            left,
-            right,
-        } => write(s, next, dir, dest, operated(regs, op, left, right)),
-        Simple::Select {
-            dest,
-            cond,
-            yes,
-            no,
-        } => write(s, next, dir, dest, selected(regs, cond, yes, no)),
-        Simple::Load { dest, array, index } => {
-            load(t, z, s, next, dir, regs, mem, dest, array, index)
+    fn init(&self, next: usize) -> Result<Plan, Stop>
+        ensures plans { planned self.now result ≡ works self.now next Simple.Init }
+        ensures lands { lands_in self.now result }
+    {
+        if self.state.mis {
+            return Err(Stop::InitAstray);
         }
-        Simple::Store {
-            array,
-            index,
-            source,
-        } => store(t, z, s, next, dir, regs, array, index, source),
-        Simple::Init => init(s, next, dir),
-        Simple::Update { register, sense } => {
-            let held = condition(get(regs, register as usize), sense);
-            updated(s, next, dir, held)
+        let clear = Next {
+            masked: false,
+            ..self.at(next)
+        };
+        self.plain(clear, Effect::None, Observation::Nothing)
+    }
+
+    fn update(&self, next: usize, register: u8, sense: bool) -> Result<Plan, Stop>
+        ensures plans { planned self.now result ≡ works self.now next (Simple.Update register sense) }
+        ensures lands { lands_in self.now result }
+    {
+        let held = (self.reg(register) != 0) == sense;
+        let updated = Next {
+            masked: self.state.masked || !held,
+            ..self.at(next)
+        };
+        self.plain(updated, Effect::None, Observation::Nothing)
+    }
+
+    // The value that a record other than the loads gives its dest.
+    fn write(&self, next: usize, dest: u8, v: u32) -> Result<Plan, Stop>
+        ensures plans { planned self.now result ≡ writes self.now next dest v }
+        ensures lands { lands_in self.now result }
+    {
+        self.plain(
+            self.at(next),
+            Effect::Register(dest, v),
+            Observation::Nothing,
+        )
+    }
+
+    pub(crate) fn simple(&self, next: usize, r: Simple) -> Result<Plan, Stop>
+        requires { SimpleReaches (words_in self.now.table.now) r }
+        ensures plans { planned self.now result ≡ works self.now next r }
+        ensures lands { lands_in self.now result }
+    {
+        match r {
+            Simple::Const { dest, value } => self.write(next, dest, value),
+            Simple::Op {
+                dest,
+                op,
+                left,
+                right,
+            } => self.write(next, dest, operate(op, self.reg(left), self.reg(right))),
+            Simple::Select {
+                dest,
+                cond,
+                yes,
+                no,
+            } => {
+                let chosen = if self.reg(cond) != 0 { yes } else { no };
+                self.write(next, dest, self.reg(chosen))
+            }
+            Simple::Load { dest, array, index } => self.load(next, dest, array, index),
+            Simple::Store {
+                array,
+                index,
+                source,
+            } => self.store(next, array, index, source),
+            Simple::Init => self.init(next),
+            Simple::Update { register, sense } => self.update(next, register, sense),
+            Simple::Protect { dest, source } => {
+                let value = self.reg(source);
+                self.write(next, dest, if self.state.masked { u32::MAX } else { value })
+            }
+            Simple::LoadFixed { dest, array, index } => self.load_fixed(next, dest, array, index),
+            Simple::StoreFixed {
+                array,
+                index,
+                source,
+            } => self.store_fixed(next, array, index, source),
         }
-        Simple::Protect { dest, source } => write(s, next, dir, dest, shielded(s, regs, source)),
-        Simple::LoadFixed { dest, array, index } => {
-            load_fixed(t, z, s, next, dir, mem, dest, array, index)
-        }
-        Simple::StoreFixed {
-            array,
-            index,
-            source,
-        } => store_fixed(s, next, dir, regs, array, index, source),
     }
 }

@@ -1,4 +1,0 @@
-use Rattle.machine.proofs.simple_records.write.Goals as goal
-
-pub returns-clause-lands : goal.returns-clause-lands
-returns-clause-lands c t = c.plain_to.ensures.lands t tt
