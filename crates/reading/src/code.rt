@@ -31,81 +31,93 @@ impl Closing {
     }
 }
 
-#[tactic(auto, unfolding(crate::specs::Reading::record_at))]
-fn record(table: &Table, c: Closing, at: usize) -> Result<(Record, usize), Refusal>
-    ensures { result ≡ record_at table.now.sizes table.now.bytes.now (closing_byte c) at }
-{
-    let Some(&kind) = table.bytes.get(at) else {
-        return Err(Fault::CutShort.at(at));
-    };
-    if c.allows(kind) {
-        return records::decode(table, at);
-    }
-    Err(Fault::UnknownKind.at(at))
+// Where records of code are read: in a function of a table, with so many nestings left.
+#[derive(Clone, Copy)]
+struct Reader<'a> {
+    table: Table<'a>,
+    function: u8,
+    depth: u8,
 }
 
-// The IF at `at`: two blocks, each closed by its own kind.
-#[cycle(block_branch_at_instr_loop_at)]
-#[tactic(auto, using(crate::proofs::Laws::blocks_is, crate::proofs::Laws::shut_else, crate::proofs::Laws::shut_one), unfolding(crate::specs::Reading::if_with))]
-fn branch_at(table: &Table, cur: u8, at: usize, next: usize, to: usize, depth: u8) -> Result<Walked, Refusal>
-    ensures { result ≡ if_with (blocks_at depth cur table.now.sizes table.now.bytes.now at) table.now.bytes.now next to }
-{
-    if depth == 0 {
-        return Err(Fault::TooDeep.at(at));
+impl Reader<'_> {
+    #[tactic(auto, unfolding(crate::specs::Reading::record_at))]
+    fn record(&self, c: Closing, at: usize) -> Result<(Record, usize), Refusal>
+        ensures { result ≡ record_at self.now.table.sizes self.now.table.bytes.now (closing_byte c) at }
+    {
+        let Some(&kind) = self.table.bytes.get(at) else {
+            return Err(Fault::CutShort.at(at));
+        };
+        if c.allows(kind) {
+            return records::decode(&self.table, at);
+        }
+        Err(Fault::UnknownKind.at(at))
     }
-    let p = block(table, cur, Closing::Else, next, depth - 1)?;
-    if p != to {
-        return Err(Fault::WrongPlace.at(p));
-    }
-    let q = block(table, cur, Closing::Endif, p + 3, depth - 1)?;
-    if q != format::place_at(table.bytes, p + 1) {
-        return Err(Fault::WrongPlace.at(q));
-    }
-    Ok(Walked::Next(q + 1))
-}
 
-// The WHILE at `at`: one block, whose end names the WHILE.
-#[cycle(block_branch_at_instr_loop_at)]
-#[tactic(auto, using(crate::proofs::Laws::blocks_is, crate::proofs::Laws::shut_endwhile), unfolding(crate::specs::Reading::while_with))]
-fn loop_at(table: &Table, cur: u8, at: usize, next: usize, to: usize, depth: u8) -> Result<Walked, Refusal>
-    ensures { result ≡ while_with (blocks_at depth cur table.now.sizes table.now.bytes.now at) table.now.bytes.now at next to }
-{
-    if depth == 0 {
-        return Err(Fault::TooDeep.at(at));
+    // The IF at `at`: two blocks, each closed by its own kind.
+    #[tactic(auto, using(crate::proofs::Laws::blocks_is, crate::proofs::Laws::shut_else, crate::proofs::Laws::shut_one), unfolding(crate::specs::Reading::if_with))]
+    #[cycle(block_branch_at_instr_loop_at)]
+    fn branch_at(&self, at: usize, next: usize, to: usize) -> Result<Walked, Refusal>
+        ensures { result ≡ if_with (blocks_at self.now.depth self.now.function self.now.table.sizes self.now.table.bytes.now at)
+            self.now.table.bytes.now next to }
+    {
+        let depth = self.depth.checked_sub(1).ok_or(Fault::TooDeep.at(at))?;
+        let inner = Reader { depth, ..*self };
+        let p = inner.block(Closing::Else, next)?;
+        if p != to {
+            return Err(Fault::WrongPlace.at(p));
+        }
+        let q = inner.block(Closing::Endif, p + 3)?;
+        if q != format::place_at(self.table.bytes, p + 1) {
+            return Err(Fault::WrongPlace.at(q));
+        }
+        Ok(Walked::Next(q + 1))
     }
-    let p = block(table, cur, Closing::Endwhile, next, depth - 1)?;
-    if p != to || format::place_at(table.bytes, p + 1) != at {
-        return Err(Fault::WrongPlace.at(p));
-    }
-    Ok(Walked::Next(p + 3))
-}
 
-#[cycle(block_branch_at_instr_loop_at)]
-#[tactic(auto, using(crate::proofs::Laws::instr_is), unfolding(crate::specs::Reading::call_at))]
-fn instr(table: &Table, cur: u8, c: Closing, at: usize, depth: u8) -> Result<Walked, Refusal>
-    ensures { result ≡ instr_at depth cur table.now.sizes table.now.bytes.now (closing_byte c) at }
-{
-    let (record, next) = record(table, c, at)?;
-    match record {
-        Record::Do(_) => Ok(Walked::Next(next)),
-        Record::Call { function, .. } if function < cur => Ok(Walked::Next(next)),
-        Record::Call { .. } => Err(Fault::NotLower.at(at)),
-        Record::If { to, .. } => branch_at(table, cur, at, next, to, depth),
-        Record::While { to, .. } => loop_at(table, cur, at, next, to, depth),
-        Record::Else { .. } | Record::Endif | Record::Endwhile { .. } | Record::Return => Ok(Walked::Shut(at)),
+    // The WHILE at `at`: one block, whose end names the WHILE.
+    #[tactic(auto, using(crate::proofs::Laws::blocks_is, crate::proofs::Laws::shut_endwhile), unfolding(crate::specs::Reading::while_with))]
+    #[cycle(block_branch_at_instr_loop_at)]
+    fn loop_at(&self, at: usize, next: usize, to: usize) -> Result<Walked, Refusal>
+        ensures { result ≡ while_with (blocks_at self.now.depth self.now.function self.now.table.sizes self.now.table.bytes.now at)
+            self.now.table.bytes.now at next to }
+    {
+        let depth = self.depth.checked_sub(1).ok_or(Fault::TooDeep.at(at))?;
+        let inner = Reader { depth, ..*self };
+        let p = inner.block(Closing::Endwhile, next)?;
+        if p != to || format::place_at(self.table.bytes, p + 1) != at {
+            return Err(Fault::WrongPlace.at(p));
+        }
+        Ok(Walked::Next(p + 3))
     }
-}
 
-#[cycle(block_branch_at_instr_loop_at)]
-#[tactic(auto, using(crate::proofs::Laws::block_is, crate::proofs::Laws::next_falls))]
-fn block(table: &Table, cur: u8, c: Closing, from: usize, depth: u8) -> Result<usize, Refusal>
-    ensures { result ≡ block_at depth cur table.now.sizes table.now.bytes.now (closing_byte c) from }
-{
-    let mut at = from;
-    loop {
-        match instr(table, cur, c, at, depth)? {
-            Walked::Next(next) => at = next,
-            Walked::Shut(end) => return Ok(end),
+    #[tactic(auto, using(crate::proofs::Laws::instr_is), unfolding(crate::specs::Reading::call_at))]
+    #[cycle(block_branch_at_instr_loop_at)]
+    fn instr(&self, c: Closing, at: usize) -> Result<Walked, Refusal>
+        ensures { result ≡ instr_at self.now.depth self.now.function self.now.table.sizes self.now.table.bytes.now (closing_byte c) at }
+    {
+        let (record, next) = self.record(c, at)?;
+        match record {
+            Record::Do(_) => Ok(Walked::Next(next)),
+            Record::Call { function, .. } if function < self.function => Ok(Walked::Next(next)),
+            Record::Call { .. } => Err(Fault::NotLower.at(at)),
+            Record::If { to, .. } => self.branch_at(at, next, to),
+            Record::While { to, .. } => self.loop_at(at, next, to),
+            Record::Else { .. } | Record::Endif | Record::Endwhile { .. } | Record::Return => {
+                Ok(Walked::Shut(at))
+            }
+        }
+    }
+
+    #[tactic(auto, using(crate::proofs::Laws::block_is, crate::proofs::Laws::next_falls))]
+    #[cycle(block_branch_at_instr_loop_at)]
+    fn block(&self, c: Closing, from: usize) -> Result<usize, Refusal>
+        ensures { result ≡ block_at self.now.depth self.now.function self.now.table.sizes self.now.table.bytes.now (closing_byte c) from }
+    {
+        let mut at = from;
+        loop {
+            match self.instr(c, at)? {
+                Walked::Next(next) => at = next,
+                Walked::Shut(end) => return Ok(end),
+            }
         }
     }
 }
@@ -116,11 +128,16 @@ fn block(table: &Table, cur: u8, c: Closing, from: usize, depth: u8) -> Result<u
 fn function(table: &Table, i: u8, at: usize) -> Result<usize, Refusal>
     ensures { result ≡ function_at table.now.sizes table.now.bytes.now i at }
 {
-    record(table, Closing::Return, at)?;
+    let reader = Reader {
+        table: *table,
+        function: i,
+        depth: 16,
+    };
+    reader.record(Closing::Return, at)?;
     if at != table.start_of(i) {
         return Err(Fault::WrongPlace.at(at));
     }
-    let end = block(table, i, Closing::Return, at, 16)?;
+    let end = reader.block(Closing::Return, at)?;
     Ok(end + 1)
 }
 

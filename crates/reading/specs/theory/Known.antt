@@ -20,7 +20,7 @@ use Rattle.format.specs.Layout.{sizes_of, signature_place, table_of}
 use Rattle.reading.specs.Reading.{functions_at, parts_at, read_at}
 use Rattle.reading.specs.theory.Limits.{read_limits}
 use Rattle.reading.specs.theory.Linked.{all_read, touches}
-use Rattle.model.specs.Numbers.{refusal, then}
+use Rattle.model.specs.Numbers.{then}
 use Rattle.model.specs.declared.Refusal.{Refusal}
 use Rattle.std.specs.Prelude.{Result, Ok, Err}
 

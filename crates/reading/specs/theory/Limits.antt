@@ -11,7 +11,7 @@ use Rattle.format.specs.Format.{byte}
 use Rattle.format.specs.Head.{To, sizes_at}
 use Rattle.format.specs.Layout.{sizes_of}
 use Rattle.reading.specs.Reading.{parts_at, read_at}
-use Rattle.model.specs.Numbers.{refusal, then}
+use Rattle.model.specs.Numbers.{then}
 use Rattle.model.specs.declared.Refusal.{Refusal}
 use Rattle.std.specs.Prelude.{Result, Ok, Err}
 

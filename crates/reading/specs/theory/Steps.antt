@@ -14,7 +14,7 @@ use Rattle.reading.specs.Reading.{allowed, record_at, call_at, met, if_with, whi
 use Rattle.model.specs.Numbers.{refusal, then}
 use Rattle.model.specs.declared.Refusal.{Refusal}
 use Rattle.std.specs.Prelude.{Result, Ok, Err}
-use Rattle.model.specs.declared.Fault.TheVariants.{WrongPlace, TooDeep}
+use Rattle.model.specs.declared.Fault.TheVariants.{TooDeep}
 use Rattle.format.specs.Head.{To}
 
 -- the record r, which closes a block, stands at p; c is its kind
