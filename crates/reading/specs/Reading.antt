@@ -14,13 +14,14 @@ use Rattle.format.specs.Layout.{sizes_of, start_of}
 use Rattle.format.specs.Head.{To, sizes_at, arrays_at, signatures_at}
 use Rattle.reading.specs.declared.code.Closing.{Closing}
 
--- ---- THE CODE. The closing kinds; one is allowed only where it is the closing kind c that is awaited
+-- ---- THE CODE. The closing kinds
 abbrev pub closing_byte : Closing → ℕ
 closing_byte Closing.Else = 0x21
 closing_byte Closing.Endif = 0x22
 closing_byte Closing.Endwhile = 0x24
 closing_byte Closing.Return = 0x25
 
+-- a closing kind is allowed only where it is the closing kind c that is awaited
 unfoldable pub allowed : ℕ → ℕ → Bool
 allowed c k = find k true ((0x21, eqb c 0x21) ∷ (0x22, eqb c 0x22) ∷ (0x24, eqb c 0x24) ∷ (0x25, eqb c 0x25) ∷ [])
 
@@ -54,11 +55,12 @@ read_with B cur t at (While r e L, next) = while_with B t at next e
 read_with B cur t at (Endwhile w, next) = Ok (Shut at)
 read_with B cur t at (Return, next) = Ok (Shut at)
 
--- records by f until one shuts the block; k bounds their number
+-- past a record by g; a record that closes ends the block
 abbrev pub onward : (ℕ → To) → Walked → To
 onward g (Next p) = g p
 onward g (Shut p) = Ok p
 
+-- records by f until one shuts the block; k bounds their number
 unfoldable pub block_with : (ℕ → Result Walked Refusal) → ℕ → ℕ → To
 block_with f zero at = Err (refusal CutShort at)
 block_with f (suc k) at = then (f at) (onward (block_with f k))

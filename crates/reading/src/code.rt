@@ -1,6 +1,6 @@
 // The code: functions, blocks, instructions. A block holds instructions and an instruction may hold blocks, so their
 // readers call each other. What falls: the nesting that is left, from 16, and within a block the bytes left.
-ghost use Rattle.std.specs.Prelude.{◌≡◌, ◌+◌, ◌-◌};
+ghost use Rattle.std.specs.Prelude.{◌≡◌};
 ghost use Rattle.reading.specs.Reading.{closing_byte, allowed, record_at, if_with, while_with, instr_at, block_at, blocks_at, function_at, functions_at};
 
 use layout::Table;

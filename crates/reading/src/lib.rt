@@ -25,7 +25,7 @@ pub fn read(t: &[u8]) -> Result<Sizes, Refusal>
     Ok(table.sizes)
 }
 
-// Sizes, arrays, signatures, functions.
+// Sizes, arrays, signatures, functions: each begins where the one before ends.
 #[tactic(auto, unfolding(crate::specs::Reading::parts_at))]
 fn parts(table: &Table) -> Result<usize, Refusal>
     ensures { result ≡ parts_at table.now.sizes table.now.bytes.now }

@@ -1,18 +1,20 @@
 -- What reading has found out about a table that reads, as the machine and demand 3 want it.
 use Prim.Native.Nat.{ℕ, zero, suc, ◌+◌, ◌-◌, ◌*◌, ◌<◌, ◌≤◌}
 use native.Mathlib.Omega.{arith}
-use Rattle.std.specs.Prelude.{◌≡◌, List, [], ◌∷◌, length, ltb, eqb}
+use Rattle.std.specs.Prelude.{◌≡◌, List, [], ◌∷◌, length, ltb, eqb, Result, Ok, Err}
 use Rattle.std.proofs.Math.Path.{refl, ap}
 use Rattle.std.proofs.Common.{sym, subst, ◌∙◌, true≢false}
 use Rattle.std.proofs.Math.Bool.{Bool, true, false}
 use Rattle.std.proofs.Math.Dec.{leb}
 use borrow.Author.Tests.{eq-eqb, le-leb}
 use Rattle.model.specs.Tests.{all, pick_ind, trues}
+use Rattle.model.specs.Numbers.{then}
 use Rattle.model.specs.Packing.{packed_in}
 use Rattle.model.specs.Table.{entry}
 use Rattle.model.specs.Blocks.{Every}
 use Rattle.model.specs.Rules.{reading}
 use Rattle.model.specs.theory.Code.{Known}
+use Rattle.model.specs.declared.Refusal.{Refusal}
 use Rattle.model.specs.declared.Sizes.{Sizes}
 use Rattle.format.specs.Format.{byte, word16, packed_at}
 use Rattle.format.specs.Head.{To, sizes_at, array_at, signature_at, arrays_at, signatures_at}
@@ -20,9 +22,6 @@ use Rattle.format.specs.Layout.{sizes_of, signature_place, table_of}
 use Rattle.reading.specs.Reading.{functions_at, parts_at, read_at}
 use Rattle.reading.specs.theory.Limits.{read_limits}
 use Rattle.reading.specs.theory.Linked.{all_read, touches}
-use Rattle.model.specs.Numbers.{then}
-use Rattle.model.specs.declared.Refusal.{Refusal}
-use Rattle.std.specs.Prelude.{Result, Ok, Err}
 
 module _ (t : List ℕ) where
   abbrev z : Sizes

@@ -1,19 +1,18 @@
 -- The limits that a table keeps which reads: its length, and the numbers of its sizes record.
-use Rattle.std.specs.Prelude.{ℕ, ◌-◌, ◌≤◌, ◌≡◌, refl, length, ltb, eqb}
+use Rattle.std.specs.Prelude.{ℕ, ◌-◌, ◌≤◌, ◌≡◌, refl, length, ltb, eqb, Result, Ok, Err}
 use Rattle.std.proofs.Common.{subst}
 use mathlib.Core.List.{List, [], ◌∷◌}
 use Rattle.std.proofs.Math.Bool.{Bool}
 use Rattle.std.proofs.Math.Dec.{leb}
 use borrow.Author.Tests.{leb-true, ltb-false}
 use Rattle.model.specs.Tests.{all, pick_ind, trues}
+use Rattle.model.specs.Numbers.{then}
+use Rattle.model.specs.declared.Refusal.{Refusal}
 use Rattle.model.specs.declared.Sizes.{Sizes}
 use Rattle.format.specs.Format.{byte}
 use Rattle.format.specs.Head.{To, sizes_at}
 use Rattle.format.specs.Layout.{sizes_of}
 use Rattle.reading.specs.Reading.{parts_at, read_at}
-use Rattle.model.specs.Numbers.{then}
-use Rattle.model.specs.declared.Refusal.{Refusal}
-use Rattle.std.specs.Prelude.{Result, Ok, Err}
 
 pub record Limits (z : Sizes) : Type 0 where
   pub some_register : 1 ≤ z.registers

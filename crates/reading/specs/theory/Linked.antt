@@ -4,9 +4,10 @@
 use Prim.Native.Nat.{ℕ, zero, suc, ◌+◌, ◌-◌, ◌<◌, ◌≤◌, zero-le, suc-le-suc}
 use Rattle.std.proofs.Common.{arith, add-one, ◌∙◌, ltb-true, eqb-true}
 use Rattle.std.proofs.Math.Decide.{ℕ_discrete}
-use Rattle.std.specs.Prelude.{◌≡◌, List, Bool, length, ltb, eqb}
+use Rattle.std.specs.Prelude.{◌≡◌, List, Bool, length, ltb, eqb, Result, Ok, Err}
 use Rattle.std.proofs.Math.Path.{refl, sym, ap, subst}
 use Rattle.model.specs.Tests.{pick, same, pick_ind}
+use Rattle.model.specs.Numbers.{refusal, then}
 use Rattle.model.specs.Records.{length_of, Single, Closes, of_closing}
 use Rattle.model.specs.Table.{Table}
 use Rattle.model.specs.Blocks.{Types, done, one, branch, loop}
@@ -14,6 +15,8 @@ use Rattle.model.specs.Rules.{reading, Lower}
 use Rattle.model.specs.theory.Places.{nesting}
 use Rattle.model.specs.theory.Functions.{edge}
 use Rattle.model.specs.Typing.{Read}
+use Rattle.model.specs.declared.Fault.TheVariants.{WrongPlace, TooDeep}
+use Rattle.model.specs.declared.Refusal.{Refusal}
 use Rattle.model.specs.declared.Sizes.{Sizes}
 use Rattle.model.specs.declared.Packed.{Packed}
 use Rattle.model.specs.declared.Record.{Record}
@@ -26,10 +29,6 @@ use Rattle.format.specs.Laws.{kind_of, Names, good}
 use Rattle.format.specs.Layout.{sizes_of, start_of, record_got, return_of, table_of}
 use Rattle.reading.specs.Reading.{record_at, call_at, met, if_with, while_with, read_with, onward, block_with, instr_at, block_at, function_at, functions_at, parts_at, read_at}
 use Rattle.reading.specs.theory.Steps.{Closing, GoodAt, record_good, closing}
-use Rattle.model.specs.Numbers.{refusal, then}
-use Rattle.model.specs.declared.Refusal.{Refusal}
-use Rattle.std.specs.Prelude.{Result, Ok, Err}
-use Rattle.model.specs.declared.Fault.TheVariants.{WrongPlace, TooDeep}
 
 -- a closing record, by its kind
 abbrev ByKind : List ℕ → ℕ → ℕ → Record → Type 0

@@ -1,21 +1,20 @@
 -- How the reading goes on: always forward, always in the table; and what it closes a block at.
-use Rattle.std.specs.Prelude.{ℕ, zero, suc, ◌+◌, ◌<◌, ◌≤◌, ◌≡◌, refl, List, true, length, ltb, leb, eqb}
+use Rattle.std.specs.Prelude.{ℕ, zero, suc, ◌+◌, ◌<◌, ◌≤◌, ◌≡◌, refl, List, true, length, ltb, leb, eqb, Result, Ok, Err}
 use Rattle.std.proofs.Common.{arith, sym, ap, subst, ◌∙◌, eqb-true}
 use Rattle.model.specs.Tests.{pick_ind}
+use Rattle.model.specs.Numbers.{refusal, then}
 use Rattle.model.specs.Records.{length_of, length_pos, Closes, of_closing}
+use Rattle.model.specs.declared.Fault.TheVariants.{TooDeep}
+use Rattle.model.specs.declared.Refusal.{Refusal}
 use Rattle.model.specs.declared.Sizes.{Sizes}
 use Rattle.model.specs.declared.Record.{Record}
 use Rattle.model.specs.declared.Record.TheVariants.{Do, Call, If, Else, Endif, While, Endwhile, Return}
 use Rattle.model.specs.declared.Walked.{Walked}
 use Rattle.model.specs.declared.Walked.TheVariants.{Next, Shut}
 use Rattle.format.specs.Format.{Decoded, byte, word16, decode_at}
+use Rattle.format.specs.Head.{To}
 use Rattle.format.specs.Laws.{kind_of, Names, good}
 use Rattle.reading.specs.Reading.{allowed, record_at, call_at, met, if_with, while_with, read_with, onward, block_with, instr_at, block_at}
-use Rattle.model.specs.Numbers.{refusal, then}
-use Rattle.model.specs.declared.Refusal.{Refusal}
-use Rattle.std.specs.Prelude.{Result, Ok, Err}
-use Rattle.model.specs.declared.Fault.TheVariants.{TooDeep}
-use Rattle.format.specs.Head.{To}
 
 -- the record r, which closes a block, stands at p; c is its kind
 pub record Closing (z : Sizes) (t : List ℕ) (c p : ℕ) : Type 0 where

@@ -1,5 +1,5 @@
--- What falls at each call of the readers' cycle: the nesting that is left, counted in steps of three. In the block's loop
--- it is the bytes left, and the invariant says that the definition's block from the start is its block from here on.
+-- What falls at each call of the readers' cycle: the nesting that is left, counted in steps of three. In the block's
+-- loop it is the bytes left, and the invariant says that the block from the start is the block from here on.
 use Rattle.std.proofs.Common.{◌≡◌, ◌+◌, ◌-◌, ◌*◌, length}
 use Rattle.reading.specs.Reading.{closing_byte, block_at}
 use Rattle.reading.proofs.code.Reader.+block_branch_at_instr_loop_at.Given as goal
