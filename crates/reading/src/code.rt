@@ -142,7 +142,7 @@ fn function(table: &Table, i: u8, at: usize) -> Result<usize, Refusal>
 }
 
 // The functions, and nothing after them.
-#[tactic(auto, unfolding(crate::specs::Reading::functions_at))]
+#[tactic(auto, using(crate::proofs::Laws::functions_next), unfolding(crate::specs::Reading::functions_at))]
 pub(crate) fn functions(table: &Table, from: usize) -> Result<usize, Refusal>
     ensures { result ≡ functions_at table.now.sizes table.now.bytes.now table.now.sizes.functions from }
 {
