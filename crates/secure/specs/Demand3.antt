@@ -6,7 +6,7 @@
 --
 -- check_at is what typing::check answers, run_at what machine::run answers and leaves behind: the definitions that
 -- their contracts cite.
-use Rattle.std.specs.Prelude.{ℕ, ◌+◌, ◌≤◌, ◌<◌, ◌≡◌, refl, false, List, length, get_or, Result, Ok, Err}
+use Rattle.std.specs.Prelude.{ℕ, ◌+◌, ◌≤◌, ◌<◌, ◌≡◌, refl, false, List, length, get_or, Ok, Err}
 use Rattle.std.proofs.Common.{sym, ap, subst, ◌∙◌}
 use Rattle.std.proofs.lemmas.List.Edits.{sets}
 use borrow.Author.Tests.{eq-eqb}
@@ -21,9 +21,8 @@ use Rattle.format.specs.Layout.{sizes_of, table_of}
 use Rattle.reading.specs.theory.Known.{known}
 use Rattle.typing.specs.Check.{check_at}
 use Rattle.typing.specs.Checked.{Readable, Pass, passes_exactly}
-use Rattle.model.specs.declared.Refusal.{Refusal}
-use Rattle.machine.specs.Directives.{list_at, directives_of, all_bytes}
-use Rattle.machine.specs.Runs.{Ran, ran, total, ran_from, started, on_listed, run_at}
+use Rattle.machine.specs.Directives.{Listed, list_at, directives_of, all_bytes}
+use Rattle.machine.specs.Runs.{Ran, ran, total, ran_from, started, unless_refused, run_at}
 
 -- ---- THE PREMISE on the two starts: registers and memory
 pub record Starts (t : List ℕ) (regs₁ mem₁ regs₂ mem₂ : List ℕ) : Type 0 where
@@ -58,9 +57,10 @@ module _ (t regs₁ mem₁ regs₂ mem₂ dirs obs₁ obs₂ : List ℕ) where
   shown_same (final j n c x os) (final k m d y ps) (e₁, e₂, e₃, e₄) =
       (e₁, ap (λ (w : Ctl). w.place) e₃, ap (λ (w : ℕ). 0 + w) e₂, ap (λ (w : Ctl). w.mis) e₃, (all_bytes os, refl, ap (λ (w : List Observation). sets obs₂ 0 (all_bytes w)) (sym e₄)))
 
-  listed_same : (l : Listed) (u v : Ran) → SameRan obs₁ obs₂ u v → SameRan obs₁ obs₂ (on_listed l (λ p. ran (Refused 16 p) regs₁ mem₁ obs₁) u) (on_listed l (λ p. ran (Refused 16 p) regs₂ mem₂ obs₂) v)
-  listed_same Good u v h = h
-  listed_same (Listed.Bad p) u v h = (refl, refl, refl, refl)
+  listed_same : (l : Listed) (u v : Ran) → SameRan obs₁ obs₂ u v
+      → SameRan obs₁ obs₂ (unless_refused l (λ e. ran (Err e) regs₁ mem₁ obs₁) (λ _. u)) (unless_refused l (λ e. ran (Err e) regs₂ mem₂ obs₂) (λ _. v))
+  listed_same (Ok x) u v h = h
+  listed_same (Err e) u v h = (refl, refl, refl, refl)
 
   module _ (pass : Pass t (check_at t)) (starts : Starts t regs₁ mem₁ regs₂ mem₂) (equal : length obs₁ ≡ length obs₂) where
     agree : Agree (table_of t) false (record { regs = regs₁; mem = mem₁; masked = false }) (record { regs = regs₂; mem = mem₂; masked = false })

@@ -2,7 +2,7 @@
 -- IF, a loop, INIT, UPDATE, PROTECT; run under wrong branches, a wrong return into another caller, a stray load and a
 -- stray store, each from two starts with different secrets. What is loaded astray is a secret, and differs; what is
 -- observed does not.
-use Rattle.std.specs.Prelude.{ℕ, ◌≡◌, refl, true, List, [], ◌∷◌, replicate}
+use Rattle.std.specs.Prelude.{ℕ, ◌≡◌, refl, true, List, [], ◌∷◌, replicate, Ok}
 use Rattle.model.specs.Tests.{below}
 use Rattle.model.specs.Levels.{join_status, same_status, within}
 use Rattle.model.specs.Packing.{slot, levels_in, packed_in}
@@ -13,6 +13,7 @@ use Rattle.model.specs.Memory.{offset_in}
 use Rattle.model.specs.InOrder.{up_to, code_from}
 use Rattle.model.specs.Sites.{home_of, site}
 use Rattle.model.specs.Machine.{operate, access, step, run}
+use Rattle.model.specs.declared.Stop.TheVariants.{ListEnded}
 use Rattle.format.specs.Format.{row_at, decode_at, words_from}
 use Rattle.format.specs.Head.{sizes_at, array_at, signature_at, arrays_at, signatures_at}
 use Rattle.format.specs.Layout.{record_of, return_of}

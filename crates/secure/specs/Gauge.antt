@@ -16,6 +16,7 @@ use Rattle.model.specs.Walk.{type_block, type_instr, type_function}
 use Rattle.model.proofs.theory.Passes.{past_single}
 use Rattle.model.specs.Decide.{record_fault}
 use Rattle.model.specs.Typing.{type_from}
+use Rattle.model.specs.declared.Fault.TheVariants.{NotPublic}
 use Rattle.format.specs.Format.{row_at, decode_at, words_from}
 use Rattle.format.specs.Head.{sizes_at, array_at, signature_at, arrays_at, signatures_at}
 use Rattle.format.specs.Layout.{record_of, return_of, table_of}

@@ -2,13 +2,15 @@
 -- schedule says which word of the message comes next. With LOAD all that is loaded of them comes out transient: the
 -- schedule's word is no index (10 at 49). With LOAD FIXED it is public. Neither table has an INIT, an UPDATE or a
 -- PROTECT, and both have the same signature. tests/examples/hash-load.txt and hash-fixed.txt have them in words.
-use Rattle.std.specs.Prelude.{ℕ, ◌≡◌, refl, List, [], ◌∷◌}
+use Rattle.std.specs.Prelude.{ℕ, ◌≡◌, refl, List, [], ◌∷◌, Err}
 use Rattle.model.specs.Tests.{below}
 use Rattle.model.specs.Levels.{join_status, same_status, within}
 use Rattle.model.specs.Packing.{slot, levels_in, packed_in}
 use Rattle.model.specs.Rules.{kill, guard_status, call_status, settle, beside}
 use Rattle.model.specs.Walk.{type_block, type_instr, type_function}
 use Rattle.model.specs.Typing.{type_from}
+use Rattle.model.specs.Numbers.{refusal}
+use Rattle.model.specs.declared.Fault.TheVariants.{NotPublic}
 use Rattle.format.specs.Format.{row_at, decode_at, words_from}
 use Rattle.format.specs.Head.{sizes_at, array_at, signature_at, arrays_at, signatures_at}
 use Rattle.format.specs.Layout.{record_of, return_of}

@@ -1,7 +1,7 @@
 -- Order 1 and "A STORE that raises only the array it names" (01, "Plausible wrong programs"). LOAD FIXED takes its
 -- array's own level, so a stray store into an array that is still called public would come back as a public value: of
 -- such a rule demand 3 is false.
-use Rattle.std.specs.Prelude.{ℕ, zero, suc, ◌<◌, ◌≤◌, ◌≡◌, refl, true, false, List, [], ◌∷◌, get_or, replicate}
+use Rattle.std.specs.Prelude.{ℕ, zero, suc, ◌<◌, ◌≤◌, ◌≡◌, refl, true, false, List, [], ◌∷◌, get_or, replicate, Ok, Err}
 use Rattle.std.proofs.Common.{arith, sym, ap, ◌∙◌}
 use Rattle.model.specs.Tests.{below}
 use Rattle.model.specs.Levels.{Env, join, join_status, same_status, within}
@@ -16,6 +16,8 @@ use Rattle.model.specs.Memory.{offset_in}
 use Rattle.model.specs.InOrder.{up_to, code_from}
 use Rattle.model.specs.Sites.{home_of, site}
 use Rattle.model.specs.Machine.{operate, access, step, run}
+use Rattle.model.specs.declared.Fault.TheVariants.{NotPublic}
+use Rattle.model.specs.declared.Stop.TheVariants.{Returned}
 use Rattle.model.specs.declared.Simple.{Simple}
 use Rattle.model.specs.declared.Simple.TheVariants.{Const, Op, Select, Load, Store, Init, Update, Protect, LoadFixed, StoreFixed}
 use Rattle.format.specs.Format.{row_at, decode_at, words_from}
