@@ -32,16 +32,14 @@ fn run(rt: &impl Print, case: &Case) -> Result<bool> {
     let mut memory = [0; 512];
     let mut observations = [255; 64];
     show::name(rt, case.name)?;
-    let Some(registers) = words(case.registers, &mut registers) else {
+    let (Some(registers), Some(memory), Some(observations)) = (
+        words(case.registers, &mut registers),
+        words(case.memory, &mut memory),
+        observations.get_mut(..usize::from(case.room)),
+    ) else {
         return Ok(false);
     };
-    let Some(memory) = words(case.memory, &mut memory) else {
-        return Ok(false);
-    };
-    let Some(observations) = observations.get_mut(..usize::from(case.room)) else {
-        return Ok(false);
-    };
-    show::run(rt, case.table, registers, memory, case.list, observations)?;
+    show::run(rt, case.table, case.list, registers, memory, observations)?;
     Ok(true)
 }
 
@@ -61,7 +59,7 @@ fn cases(rt: &impl Print, mut s: &[u8]) -> Result<()> {
 fn main(rt: HostRuntime) {
     let mut input = [0; 262144];
     let n = io::read_full(0, &mut input);
-    // What cannot be written is left out.
+    // A write that fails ends the program, and is no error of it.
     let _ = if n < input.len() {
         cases(&rt, &input[..n])
     } else {

@@ -13,27 +13,36 @@ pub(crate) fn no_case(rt: &impl Print) -> io::Result<()> {
     println!(rt; "no whole case, or one too large")
 }
 
-fn numbers<N: Display>(rt: &impl Print, what: &str, when: &str, each: &[N]) -> io::Result<()> {
-    print!(rt; "{what}{when}")?;
+// The numbers, and the end of their line.
+fn numbers<N: Display>(rt: &impl Print, each: &[N]) -> io::Result<()> {
     for n in each {
         print!(rt; " {n}")?;
     }
     println!(rt; "")
 }
 
-// Only the length of more than 200.
-fn bytes(rt: &impl Print, what: &str, when: &str, each: &[u8]) -> io::Result<()> {
+// As numbers, but only the length of more than 200.
+fn bytes(rt: &impl Print, each: &[u8]) -> io::Result<()> {
     if each.len() <= 200 {
-        numbers(rt, what, when, each)
+        numbers(rt, each)
     } else {
-        println!(rt; "{what}{when} {} bytes", each.len())
+        println!(rt; " {} bytes", each.len())
     }
 }
 
-fn state(rt: &impl Print, when: &str, regs: &[u32], mem: &[u32], obs: &[u8]) -> io::Result<()> {
-    numbers(rt, "registers", when, regs)?;
-    numbers(rt, "memory", when, mem)?;
-    bytes(rt, "observations", when, obs)
+fn state(
+    rt: &impl Print,
+    when: &str,
+    registers: &[u32],
+    memory: &[u32],
+    observations: &[u8],
+) -> io::Result<()> {
+    print!(rt; "registers {when}")?;
+    numbers(rt, registers)?;
+    print!(rt; "memory {when}")?;
+    numbers(rt, memory)?;
+    print!(rt; "observations {when}")?;
+    bytes(rt, observations)
 }
 
 fn ending(rt: &impl Print, o: Outcome) -> io::Result<()> {
@@ -52,16 +61,21 @@ fn ending(rt: &impl Print, o: Outcome) -> io::Result<()> {
 
 pub(crate) fn run(
     rt: &impl Print,
-    t: &[u8],
-    regs: &mut [u32],
-    mem: &mut [u32],
-    dirs: &[u8],
-    obs: &mut [u8],
+    table: &[u8],
+    list: &[u8],
+    registers: &mut [u32],
+    memory: &mut [u32],
+    observations: &mut [u8],
 ) -> io::Result<()> {
-    bytes(rt, "table", "", t)?;
-    bytes(rt, "directives", "", dirs)?;
-    state(rt, " before", regs, mem, obs)?;
-    ending(rt, machine::run(t, regs, mem, dirs, obs))?;
-    state(rt, " after", regs, mem, obs)?;
+    print!(rt; "table")?;
+    bytes(rt, table)?;
+    print!(rt; "directives")?;
+    bytes(rt, list)?;
+    state(rt, "before", registers, memory, observations)?;
+    ending(
+        rt,
+        machine::run(table, registers, memory, list, observations),
+    )?;
+    state(rt, "after", registers, memory, observations)?;
     println!(rt; "")
 }
