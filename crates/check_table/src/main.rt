@@ -11,6 +11,7 @@ use model::Fault;
 use std::io::{Read, Stdin};
 
 // How many bytes came: all of the input, or as much as there is room for. Err: how many came before a read failed.
+// (The library's `read_exact` does not say how many.)
 fn read_input(mut stdin: Stdin, space: &mut [u8]) -> Result<usize, usize>
     ensures { IfOk result (λ n. n ≤ length space.new) }
 {

@@ -47,15 +47,15 @@ fn state(
 
 fn ending(rt: &impl Print, o: Outcome) -> io::Result<()> {
     match o {
-        Outcome::Refused(number, place) => println!(rt; "refused {number} at {place}"),
-        Outcome::Stopped(s) => println!(rt;
+        Ok(end) => println!(rt;
             "stop {} at {} after {} steps, misspeculating {}, masked {}",
-            s.number,
-            s.place,
-            s.steps,
-            u8::from(s.mis),
-            u8::from(s.masked)
+            end.stop.number(),
+            end.place,
+            end.steps,
+            u8::from(end.mis),
+            u8::from(end.masked)
         ),
+        Err(refusal) => println!(rt; "refused {} at {}", refusal.fault.number(), refusal.place),
     }
 }
 
