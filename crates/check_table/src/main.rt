@@ -30,7 +30,7 @@ fn main(rt: HostRuntime) {
     let mut table = [0u8; 32769];
     let verdict = match read_input(rt.stdin(), &mut table) {
         Ok(n) => typing::check(&table[..n]),
-        Err(n) => Err(Fault::CutShort.at(n)),
+        Err(n) => Err(Fault::TableCut.at(n)),
     };
     let mut line = [0u8; 80];
     let n = report::verdict_line(verdict, &mut line);

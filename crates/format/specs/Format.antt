@@ -5,7 +5,7 @@ use Rattle.model.specs.Tests.{pick, all}
 use Rattle.model.specs.Packing.{packed_in}
 use Rattle.model.specs.Records.{length_of}
 use Rattle.model.specs.Numbers.{refusal, operation_of}
-use Rattle.model.specs.declared.Fault.TheVariants.{CutShort, UnknownKind, OutOfRange}
+use Rattle.model.specs.declared.Fault.TheVariants.{TableCut, WrongKind, OutOfRange}
 use Rattle.model.specs.declared.Refusal.{Refusal}
 use Rattle.model.specs.declared.Sizes.{Sizes}
 use Rattle.model.specs.declared.Packed.{Packed}
@@ -45,7 +45,7 @@ find k d (r ∷ rs) = pick (eqb k r.0) r.1 (find k d rs)
 
 -- a record of n bytes at `at`, the kind byte counted: cut short is 2, a field out of range 4
 abbrev pub shaped : {A : Type 0} → List ℕ → ℕ → ℕ → List Bool → Result A Refusal → Result A Refusal
-shaped t at n tests good = pick (ltb (length t - at) n) (Err (refusal CutShort at)) (pick (all tests) good (Err (refusal OutOfRange at)))
+shaped t at n tests good = pick (ltb (length t - at) n) (Err (refusal TableCut at)) (pick (all tests) good (Err (refusal OutOfRange at)))
 
 -- a row: kind, tests of the fields, the record
 abbrev pub Row : Type 0
@@ -84,7 +84,7 @@ Decoded = Result (Record × ℕ) Refusal
 
 -- the record of kind k at `at`, by its row; no row is 3
 abbrev pub by_row : List ℕ → ℕ → ℕ → List Row → Decoded
-by_row t at k [] = Err (refusal UnknownKind at)
+by_row t at k [] = Err (refusal WrongKind at)
 by_row t at k (r ∷ rs) = pick (eqb k r.0) (shaped t at (length_of r.2) r.1 (Ok (r.2, at + length_of r.2))) (by_row t at k rs)
 
 unfoldable pub row_at : ℕ → Sizes → List ℕ → ℕ → Decoded
@@ -92,7 +92,7 @@ row_at k z t at = by_row t at k (rows_of z t at)
 
 -- a record is due at `at`
 unfoldable pub decode_at : Sizes → List ℕ → ℕ → Decoded
-decode_at z t at = pick (leb (length t) at) (Err (refusal CutShort at)) (row_at (byte t at) z t at)
+decode_at z t at = pick (leb (length t) at) (Err (refusal TableCut at)) (row_at (byte t at) z t at)
 
 -- the length of a record of kind k, by the same rows (what bytes they are over does not count); 0 where there is none
 abbrev pub length_in : ℕ → List Row → ℕ

@@ -4,13 +4,13 @@ use Rattle.model.specs.Tests.{pick, all}
 use Rattle.model.specs.Packing.{packed_in}
 use Rattle.model.specs.declared.Sizes.{Sizes}
 use Rattle.model.specs.Numbers.{refusal, then}
-use Rattle.model.specs.declared.Fault.TheVariants.{CutShort, UnknownKind, EntryStatus}
+use Rattle.model.specs.declared.Fault.TheVariants.{TableCut, WrongKind, EntryUpdated}
 use Rattle.model.specs.declared.Refusal.{Refusal}
 use Rattle.format.specs.Format.{byte, word16, packed_at, shaped}
 
 -- a record of kind k and n bytes is due at `at`
 abbrev pub due_at : {A : Type 0} → ℕ → List ℕ → ℕ → ℕ → List Bool → Result A Refusal → Result A Refusal
-due_at k t at n tests good = pick (leb (length t) at) (Err (refusal CutShort at)) (pick (eqb (byte t at) k) (shaped t at n tests good) (Err (refusal UnknownKind at)))
+due_at k t at n tests good = pick (leb (length t) at) (Err (refusal TableCut at)) (pick (eqb (byte t at) k) (shaped t at n tests good) (Err (refusal WrongKind at)))
 
 -- where the next record is due
 abbrev pub To : Type 0
@@ -30,7 +30,7 @@ array_at t at = due_at 2 t at 3 (leb 1 (word16 t (at + 1)) ∷ leb (word16 t (at
 unfoldable pub signature_at : Sizes → List ℕ → ℕ → ℕ → To
 signature_at z t n at =
     let fits : ℕ → Bool = λ p. packed_in z.registers z.arrays (packed_at t p) in
-    due_at 3 t at 17 (fits (at + 3) ∷ fits (at + 10) ∷ []) (pick (all (eqb n 0 ∷ leb 1 (byte t (at + 3)) ∷ [])) (Err (refusal EntryStatus at)) (Ok (at + 17)))
+    due_at 3 t at 17 (fits (at + 3) ∷ fits (at + 10) ∷ []) (pick (all (eqb n 0 ∷ leb 1 (byte t (at + 3)) ∷ [])) (Err (refusal EntryUpdated at)) (Ok (at + 17)))
 
 unfoldable pub arrays_at : List ℕ → ℕ → ℕ → To
 arrays_at t zero at = Ok at

@@ -3,7 +3,7 @@ use Rattle.std.specs.Prelude.{ℕ, suc, ◌+◌, ◌-◌, ◌<◌, ◌≡◌, re
 use Rattle.std.proofs.Common.{arith}
 use Rattle.model.specs.Tests.{pick, all}
 use Rattle.model.specs.Numbers.{refusal, then}
-use Rattle.model.specs.declared.Fault.TheVariants.{CutShort, UnknownKind, OutOfRange}
+use Rattle.model.specs.declared.Fault.TheVariants.{TableCut, WrongKind, OutOfRange}
 use Rattle.model.specs.declared.Refusal.{Refusal}
 use Rattle.format.specs.Format.{byte}
 use Rattle.format.specs.Head.{due_at, array_at, arrays_at}
@@ -14,13 +14,13 @@ pub due_then : {A : Type 0} (k : ℕ) (t : List ℕ) (at n : ℕ) (tests : List 
 due_then {A = A} k t at n tests good = go (leb (length t) at) (eqb (byte t at) k) (ltb (length t - at) n)
   where
     short : Result A Refusal
-    short = Err (refusal CutShort at)
+    short = Err (refusal TableCut at)
 
     fields : Result A Refusal
     fields = pick (all tests) good (Err (refusal OutOfRange at))
 
-    go : (a b c : Bool) → pick a short (pick b (pick c short fields) (Err (refusal UnknownKind at)))
-        ≡ then (pick a (Err (refusal CutShort at)) (pick b (pick c (Err (refusal CutShort at)) (Ok (tt {0}))) (Err (refusal UnknownKind at)))) (λ _. fields)
+    go : (a b c : Bool) → pick a short (pick b (pick c short fields) (Err (refusal WrongKind at)))
+        ≡ then (pick a (Err (refusal TableCut at)) (pick b (pick c (Err (refusal TableCut at)) (Ok (tt {0}))) (Err (refusal WrongKind at)))) (λ _. fields)
     go true b c = refl
     go false false c = refl
     go false true true = refl

@@ -13,13 +13,13 @@ fn due(t: &[u8], at: usize, kind: u8, n: usize) -> Result<(), Refusal>
     ensures { result ≡ due_at kind t.now at n [] (Ok tt) }
 {
     if t.len() <= at {
-        return Err(Fault::CutShort.at(at));
+        return Err(Fault::TableCut.at(at));
     }
     if t[at] != kind {
-        return Err(Fault::UnknownKind.at(at));
+        return Err(Fault::WrongKind.at(at));
     }
     if t.len() - at < n {
-        return Err(Fault::CutShort.at(at));
+        return Err(Fault::TableCut.at(at));
     }
     Ok(())
 }
@@ -77,7 +77,7 @@ fn signature(table: &Table, n: u8, at: usize) -> Result<usize, Refusal>
         return Err(Fault::OutOfRange.at(at));
     }
     if n == 0 && 1 <= into.status {
-        return Err(Fault::EntryStatus.at(at));
+        return Err(Fault::EntryUpdated.at(at));
     }
     Ok(at + 17)
 }

@@ -10,7 +10,7 @@ use Rattle.model.proofs.theory.Stands.{step_stands, stack_bound}
 use Rattle.model.specs.Machine.{Ctl, Data, Stepped, Stopped, Went, step, size, Final, final, observed, after_step, ended, run}
 use Rattle.model.specs.declared.Sizes.{Sizes}
 use Rattle.model.specs.declared.Stop.{Stop}
-use Rattle.model.specs.declared.Stop.TheVariants.{ListEnded, Returned}
+use Rattle.model.specs.declared.Stop.TheVariants.{ListUsedUp, Returned}
 use Rattle.model.specs.declared.Directive.{Directive}
 use Rattle.model.specs.declared.Directive.TheVariants.{Plain}
 use Rattle.model.specs.declared.Observation.{Observation}
@@ -78,7 +78,7 @@ unfolding run
 run_ended t [] room c x e = rw e
 run_ended t (d ∷ ds) room c x e = rw e
 
-pub run_used : (t : Table) (room : ℕ) (c : Ctl) (x : Data) → ended t c ≡ false → run t [] room c x ≡ final ListEnded 0 c x []
+pub run_used : (t : Table) (room : ℕ) (c : Ctl) (x : Data) → ended t c ≡ false → run t [] room c x ≡ final ListUsedUp 0 c x []
 unfolding run
 run_used t room c x e = rw e
 

@@ -6,7 +6,7 @@ use Rattle.model.specs.Table.{Table, entry}
 use Rattle.model.specs.Machine.{Ctl, Data, flagged, Went, step, size, ended, run, start_ctl}
 use Rattle.model.specs.declared.Sizes.{Sizes}
 use Rattle.model.specs.declared.Stop.{Stop}
-use Rattle.model.specs.declared.Stop.TheVariants.{ListEnded, Returned, NoRoom}
+use Rattle.model.specs.declared.Stop.TheVariants.{ListUsedUp, Returned, NoRoom}
 use Rattle.model.specs.declared.Directive.{Directive}
 use Rattle.format.specs.Layout.{table_with, table_of}
 use Rattle.reading.specs.Reading.{read_at}
@@ -78,7 +78,7 @@ module _ (t : Table) (s : State) where
       not_over : ended t (ctl_of s) ≡ false
       not_over = ne_eqb s.place (t.ret (entry t)) n
 
-      used : ((j : ℕ) → directives_from j dirs at ≡ []) → TurnHalts t s dirs at a ListEnded s a
+      used : ((j : ℕ) → directives_from j dirs at ≡ []) → TurnHalts t s dirs at a ListUsedUp s a
       used d = record {
         stays = refl;
         kept = refl;
@@ -87,10 +87,10 @@ module _ (t : Table) (s : State) where
 
       -- 20: the list is used up; or from here on it does not read, which it does where it was tested before the first
       -- step
-      pub turn_used : length dirs ≤ at → TurnHalts t s dirs at a ListEnded s a
+      pub turn_used : length dirs ≤ at → TurnHalts t s dirs at a ListUsedUp s a
       turn_used l = used (λ j. directives_end j dirs at l)
 
-      pub turn_bad : at < length dirs → directive_at dirs at ≡ None → TurnHalts t s dirs at a ListEnded s a
+      pub turn_bad : at < length dirs → directive_at dirs at ≡ None → TurnHalts t s dirs at a ListUsedUp s a
       turn_bad l b = used (λ j. directives_bad j dirs at l b)
 
       module _ (dir : Directive) (next : ℕ) (l : at < length dirs) (g : directive_at dirs at ≡ Some (dir, next)) where

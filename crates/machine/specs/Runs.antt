@@ -5,7 +5,7 @@ use Rattle.std.proofs.lemmas.List.Edits.{sets}
 use Rattle.model.specs.Tests.{pick}
 use Rattle.model.specs.Numbers.{refusal}
 use Rattle.model.specs.Machine.{Final, final, run, start_ctl}
-use Rattle.model.specs.declared.Fault.TheVariants.{WrongLengths}
+use Rattle.model.specs.declared.Fault.TheVariants.{WrongLength}
 use Rattle.model.specs.declared.Refusal.{Refusal}
 use Rattle.model.specs.declared.Sizes.{Sizes}
 use Rattle.format.specs.Format.{words_from}
@@ -51,4 +51,4 @@ run_at t regs mem dirs obs =
     unless_refused (read_at t) refuse (λ z.
     pick (fitting z t (length regs) (length mem))
     (unless_refused (list_at dirs) refuse (λ _. started z t regs mem dirs obs))
-    (refuse (refusal WrongLengths 0)))
+    (refuse (refusal WrongLength 0)))

@@ -6,19 +6,19 @@ use Rattle.model.specs.Table.{Table}
 use Rattle.model.specs.Machine.{Ctl, Data, Final, final, run}
 use Rattle.model.specs.declared.Directive.{Directive}
 use Rattle.model.specs.declared.Stop.{Stop}
-use Rattle.model.specs.declared.Stop.TheVariants.{ListEnded, Returned, WrongDirective, InitAstray, OutOfBounds, NoSuchPlace, NoRoom}
+use Rattle.model.specs.declared.Stop.TheVariants.{ListUsedUp, Returned, WrongDirective, InitMisspeculating, AccessOutOfRange, NoSuchTarget, NoRoom}
 
 abbrev pub Listed : ℕ → Type 0
 Listed k = (20 ≤ k) × (k ≤ 26)
 
 -- whatever a stop is, its number is one of these
 pub stop_listed : (k : Stop) → Listed (stop_number k)
-stop_listed ListEnded = (omega arith, omega arith)
+stop_listed ListUsedUp = (omega arith, omega arith)
 stop_listed Returned = (omega arith, omega arith)
 stop_listed WrongDirective = (omega arith, omega arith)
-stop_listed InitAstray = (omega arith, omega arith)
-stop_listed OutOfBounds = (omega arith, omega arith)
-stop_listed NoSuchPlace = (omega arith, omega arith)
+stop_listed InitMisspeculating = (omega arith, omega arith)
+stop_listed AccessOutOfRange = (omega arith, omega arith)
+stop_listed NoSuchTarget = (omega arith, omega arith)
 stop_listed NoRoom = (omega arith, omega arith)
 
 abbrev pub EndListed : Final → Type 0

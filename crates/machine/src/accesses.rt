@@ -21,7 +21,7 @@ impl Step<'_> {
             return Ok((a, index));
         }
         if !self.state.mis {
-            return Err(Stop::OutOfBounds);
+            return Err(Stop::AccessOutOfRange);
         }
         self.stray_to()
     }
@@ -37,7 +37,7 @@ impl Step<'_> {
         if a < self.table.sizes.arrays && i < words_of(self.table, a) {
             return Ok((a, i));
         }
-        Err(Stop::NoSuchPlace)
+        Err(Stop::NoSuchTarget)
     }
 
     // Word i of array a.

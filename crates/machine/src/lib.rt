@@ -115,7 +115,7 @@ pub fn run(t: &[u8], regs: &mut [u32], mem: &mut [u32], dirs: &[u8], obs: &mut [
         sizes: reading::read(t)?,
     };
     if !memory::fits(&table, regs.len(), mem.len()) {
-        return Err(Fault::WrongLengths.at(0));
+        return Err(Fault::WrongLength.at(0));
     }
     bytes::list_fault(dirs)?;
     let mut machine = Machine {

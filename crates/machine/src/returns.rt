@@ -70,7 +70,7 @@ impl Step<'_> {
         ensures lands { lands_in self.now result }
     {
         let function = home(self.table, self.state.place);
-        let mark = site_of(self.table, function, q).ok_or(Stop::NoSuchPlace)?;
+        let mark = site_of(self.table, function, q).ok_or(Stop::NoSuchTarget)?;
         let next = Next {
             place: q,
             stacking: Stacking::Clear,

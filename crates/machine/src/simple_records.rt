@@ -60,7 +60,7 @@ impl Step<'_> {
         ensures lands { lands_in self.now result }
     {
         if self.state.mis {
-            return Err(Stop::InitAstray);
+            return Err(Stop::InitMisspeculating);
         }
         let clear = Next {
             masked: false,

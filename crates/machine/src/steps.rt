@@ -71,10 +71,10 @@ impl Machine<'_> {
             return Err(Stop::Returned);
         }
         if dirs.len() <= at {
-            return Err(Stop::ListEnded);
+            return Err(Stop::ListUsedUp);
         }
         let Some((dir, next)) = directive_at(dirs, at) else {
-            return Err(Stop::ListEnded);
+            return Err(Stop::ListUsedUp);
         };
         self.step(s, dir)?;
         Ok(next)

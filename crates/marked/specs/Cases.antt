@@ -17,7 +17,7 @@ use Rattle.reading.specs.Reading.{allowed, record_at, call_at, if_with, while_wi
 use Rattle.typing.specs.Check.{check_at}
 use Rattle.model.specs.Numbers.{refusal, fault_number}
 use Rattle.model.specs.declared.Fault.{Fault}
-use Rattle.model.specs.declared.Fault.TheVariants.{CutShort, WrongStatus}
+use Rattle.model.specs.declared.Fault.TheVariants.{TableCut, WrongStatus}
 use Rattle.model.specs.declared.Stop.TheVariants.{Returned}
 use Rattle.model.specs.Memory.{offset_in}
 use Rattle.model.specs.Machine.{Stepped, Stopped, Went, operate, access, step_of, step, run}
@@ -85,7 +85,7 @@ abbrev pub cases : List Case
 cases =
     writes table_a refused_10_at_28 ∷  -- 1
     writes table_b accepted_1_functions_37_bytes ∷  -- 2
-    refuses [] CutShort 2 0 ∷  -- 3
+    refuses [] TableCut 2 0 ∷  -- 3
     runs table_b (0 ∷ 1 ∷ []) (3 ∷ 2 ∷ 9 ∷ 7 ∷ []) (96 ∷ 96 ∷ 96 ∷ 96 ∷ []) 14  -- 4
     (record { stop = Returned; place = 36; steps = 4; mis = false; masked = false }) (2 ∷ 9 ∷ []) (3 ∷ 2 ∷ 9 ∷ 7 ∷ [])
     (112 ∷ 114 ∷ 0 ∷ 1 ∷ 0 ∷ 0 ∷ 0 ∷ 112 ∷ 114 ∷ 0 ∷ 2 ∷ 0 ∷ 0 ∷ 0 ∷ []) ∷

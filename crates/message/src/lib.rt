@@ -50,9 +50,9 @@ fn table_count(t: &[u8], fault: Fault, p: usize) -> usize
     ensures { result ≡ table_count t.now (fault_number fault) p }
 {
     match fault {
-        Fault::CutShort => t.len().saturating_sub(p),
-        Fault::UnknownKind => 1,
-        Fault::BytesAfter => t.len().saturating_sub(p),
+        Fault::TableCut => t.len().saturating_sub(p),
+        Fault::WrongKind => 1,
+        Fault::BytesAfterEnd => t.len().saturating_sub(p),
         _ => kind_length(format::byte_at(t, p)),
     }
 }
@@ -66,7 +66,7 @@ pub fn part_of(table: &[u8], list: &[u8], number: u8, place: usize) -> Part
         return Part::Table(0, 0);
     };
     match fault {
-        Fault::TooLong | Fault::WrongLengths => Part::Table(0, 0),
+        Fault::TableTooLong | Fault::WrongLength => Part::Table(0, 0),
         Fault::BadList => {
             if 16384 < list.len() {
                 return Part::Table(0, 0);

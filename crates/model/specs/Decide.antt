@@ -8,7 +8,7 @@ use Rattle.model.specs.Table.{Table}
 use Rattle.model.specs.Rules.{typing}
 use Rattle.model.specs.Walk.{Tests}
 use Rattle.model.specs.declared.Fault.{Fault}
-use Rattle.model.specs.declared.Fault.TheVariants.{NotPublic, WrongStatus, NotWithinIn}
+use Rattle.model.specs.declared.Fault.TheVariants.{NotPublic, WrongStatus, CallDoesNotFit}
 use Rattle.model.specs.declared.Status.TheVariants.{Updated, Outdated}
 use Rattle.model.specs.declared.Simple.{Simple}
 use Rattle.model.specs.declared.Simple.TheVariants.{Const, Op, Select, Load, Store, Init, Update, Protect, LoadFixed, StoreFixed}
@@ -47,7 +47,7 @@ fault_of s E = pick (meets s E) None (Some (simple_fault s))
 
 -- 13: not within the callee's in. The records of blocks have 10, 12 and 14 by the walk
 abbrev pub record_fault : Record → Fault
-record_fault = by_single simple_fault (λ f m. NotWithinIn) NotPublic
+record_fault = by_single simple_fault (λ f m. CallDoesNotFit) NotPublic
 
 module _ (t : Table) where
   abbrev pub meets_of : Record → Env → Bool

@@ -8,7 +8,7 @@ use Rattle.model.specs.Records.{simple_length}
 use Rattle.model.specs.Sites.{site}
 use Rattle.model.specs.Table.{Table, entry}
 use Rattle.model.specs.declared.Stop.{Stop}
-use Rattle.model.specs.declared.Stop.TheVariants.{ListEnded, Returned, WrongDirective, InitAstray, OutOfBounds, NoSuchPlace, NoRoom}
+use Rattle.model.specs.declared.Stop.TheVariants.{ListUsedUp, Returned, WrongDirective, InitMisspeculating, AccessOutOfRange, NoSuchTarget, NoRoom}
 use Rattle.model.specs.declared.Operation.{Operation}
 use Rattle.model.specs.declared.Operation.TheVariants.{Add, Sub, Mul, Xor, And, Or, Less, Equal}
 use Rattle.model.specs.declared.Directive.{Directive}
@@ -118,12 +118,12 @@ module _ (t : Table) where
   abbrev pub strayed : Directive → Result (ℕ × ℕ) Stop
   strayed Plain = Err WrongDirective
   strayed (Branch b) = Err WrongDirective
-  strayed (Stray b j) = pick (ltb b t.arrays && ltb j (words_of t b)) (Ok (b, j)) (Err NoSuchPlace)
+  strayed (Stray b j) = pick (ltb b t.arrays && ltb j (words_of t b)) (Ok (b, j)) (Err NoSuchTarget)
   strayed (Back q) = Err WrongDirective
 
   -- word i of array a is asked for; out of range on the right path is 24, before any directive is looked at
   unfoldable pub access : ℕ → ℕ → Bool → Directive → Result (ℕ × ℕ) Stop
-  access a i mis dir = pick (ltb i (words_of t a)) (in_range a i dir) (pick mis (strayed dir) (Err OutOfBounds))
+  access a i mis dir = pick (ltb i (words_of t a)) (in_range a i dir) (pick mis (strayed dir) (Err AccessOutOfRange))
 
   abbrev pub work : Simple → Directive → Bool → Data → Work
   work (Const d v) dir mis x = plain dir (did (wrote x d v) Nothing)
@@ -131,7 +131,7 @@ module _ (t : Table) where
   work (Select d c y n) dir mis x = plain dir (did (wrote x d (pick (truth (reg x c)) (reg x y) (reg x n))) Nothing)
   work (Load d a i) dir mis x = by_access (access a (reg x i) mis dir) (λ b j. did (wrote x d (word_at t x b j)) (Address a (reg x i)))
   work (Store a i s) dir mis x = by_access (access a (reg x i) mis dir) (λ b j. did (stored t x b j (reg x s)) (Address a (reg x i)))
-  work Init dir mis x = pick mis (halt InitAstray) (plain dir (did (flagged x false) Nothing))
+  work Init dir mis x = pick mis (halt InitMisspeculating) (plain dir (did (flagged x false) Nothing))
   work (Update r s) dir mis x = plain dir (did (flagged x (pick (holds (reg x r) s) x.masked true)) Nothing)
   work (Protect d s) dir mis x = plain dir (did (wrote x d (pick x.masked 4294967295 (reg x s))) Nothing)
   work (LoadFixed d a i) dir mis x = plain dir (did (wrote x d (word_at t x a i)) (Address a i))
@@ -150,7 +150,7 @@ module _ (t : Table) where
 
   -- a wrong return to q, which follows a CALL with the mark
   abbrev pub wrong : Option Bool → ℕ → Data → Stepped
-  wrong None q x = Stopped NoSuchPlace
+  wrong None q x = Stopped NoSuchTarget
   wrong (Some m) q x = Went (record { place = q; stack = []; mis = true }) (flagged x (m || x.masked)) Nothing
 
   abbrev pub right : Option (List ℕ) → ℕ → Ctl → Data → Stepped
@@ -202,7 +202,7 @@ module _ (t : Table) where
 
   -- 21 first, then 20; each step uses one directive
   unfoldable pub run : List Directive → ℕ → Ctl → Data → Final
-  run [] room c x = pick (ended c) (final Returned 0 c x []) (final ListEnded 0 c x [])
+  run [] room c x = pick (ended c) (final Returned 0 c x []) (final ListUsedUp 0 c x [])
   run (d ∷ ds) room c x = pick (ended c) (final Returned 0 c x []) (after_step (step t c d x) room c x (run ds))
 
   -- "A start has the entry's first place, empty stack, no, clear": the control part, and the flag is in the data

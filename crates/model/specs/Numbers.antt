@@ -2,30 +2,30 @@
 use Rattle.std.specs.Prelude.{ℕ, ◌≡◌, ◌<◌, ◌⊎◌, eqb, Result, Ok, Err, MatchResult}
 use Rattle.model.specs.Tests.{pick}
 use Rattle.model.specs.declared.Fault.{Fault}
-use Rattle.model.specs.declared.Fault.TheVariants.{TooLong, CutShort, UnknownKind, OutOfRange, WrongPlace, TooDeep, NotLower, EntryStatus, BytesAfter, NotPublic, WrongStatus, NotWithinLoop, NotWithinIn, NotWithinOut, WrongLengths, BadList}
+use Rattle.model.specs.declared.Fault.TheVariants.{TableTooLong, TableCut, WrongKind, OutOfRange, WrongPlace, TooDeep, CallNotLower, EntryUpdated, BytesAfterEnd, NotPublic, WrongStatus, LoopNotKept, CallDoesNotFit, ReturnDoesNotFit, WrongLength, BadList}
 use Rattle.model.specs.declared.NoFault.{NoFault}
 use Rattle.model.specs.declared.Refusal.{Refusal}
 use Rattle.model.specs.declared.Stop.{Stop}
-use Rattle.model.specs.declared.Stop.TheVariants.{ListEnded, Returned, WrongDirective, InitAstray, OutOfBounds, NoSuchPlace, NoRoom}
+use Rattle.model.specs.declared.Stop.TheVariants.{ListUsedUp, Returned, WrongDirective, InitMisspeculating, AccessOutOfRange, NoSuchTarget, NoRoom}
 use Rattle.model.specs.declared.Operation.{Operation}
 use Rattle.model.specs.declared.Operation.TheVariants.{Add, Sub, Mul, Xor, And, Or, Less, Equal}
 
 abbrev pub fault_number : Fault → ℕ
-fault_number TooLong = 1
-fault_number CutShort = 2
-fault_number UnknownKind = 3
+fault_number TableTooLong = 1
+fault_number TableCut = 2
+fault_number WrongKind = 3
 fault_number OutOfRange = 4
 fault_number WrongPlace = 5
 fault_number TooDeep = 6
-fault_number NotLower = 7
-fault_number EntryStatus = 8
-fault_number BytesAfter = 9
+fault_number CallNotLower = 7
+fault_number EntryUpdated = 8
+fault_number BytesAfterEnd = 9
 fault_number NotPublic = 10
 fault_number WrongStatus = 11
-fault_number NotWithinLoop = 12
-fault_number NotWithinIn = 13
-fault_number NotWithinOut = 14
-fault_number WrongLengths = 15
+fault_number LoopNotKept = 12
+fault_number CallDoesNotFit = 13
+fault_number ReturnDoesNotFit = 14
+fault_number WrongLength = 15
 fault_number BadList = 16
 
 -- the fault of a number, or none: 0, and all above 16
@@ -42,12 +42,12 @@ then (Ok x) f = f x
 then (Err e) f = Err e
 
 abbrev pub stop_number : Stop → ℕ
-stop_number ListEnded = 20
+stop_number ListUsedUp = 20
 stop_number Returned = 21
 stop_number WrongDirective = 22
-stop_number InitAstray = 23
-stop_number OutOfBounds = 24
-stop_number NoSuchPlace = 25
+stop_number InitMisspeculating = 23
+stop_number AccessOutOfRange = 24
+stop_number NoSuchTarget = 25
 stop_number NoRoom = 26
 
 -- the operation of a number below 8

@@ -9,7 +9,7 @@ use Rattle.model.specs.Records.{length_of, Single, Closes, of_single, of_closing
 use Rattle.model.specs.Table.{Table}
 use Rattle.model.specs.Blocks.{Rules}
 use Rattle.model.specs.declared.Fault.{Fault}
-use Rattle.model.specs.declared.Fault.TheVariants.{CutShort, TooDeep, NotPublic, NotWithinLoop, NotWithinOut}
+use Rattle.model.specs.declared.Fault.TheVariants.{TableCut, TooDeep, NotPublic, LoopNotKept, ReturnDoesNotFit}
 use Rattle.model.specs.declared.Record.{Record}
 use Rattle.model.specs.declared.Record.TheVariants.{Do, Call, If, Else, Endif, While, Endwhile, Return}
 
@@ -60,8 +60,8 @@ module _ (t : Table) (R : Rules) (D : Tests R) where
   -- 12 before 10
   abbrev pub while_with : (ℕ → R.Env → Ending R.Env) → ℕ → ℕ → R.Env → R.Env → Walking R.Env
   while_with B p r L E = pick (D.within E L)
-      (pick (D.public L r) (on_shut Halt (B (p + 11) (R.guarded L r true)) λ e E₁. pick (D.within E₁ L) (Onward (e + 3) (R.guarded L r false)) (Halt NotWithinLoop e)) (Halt NotPublic p))
-      (Halt NotWithinLoop p)
+      (pick (D.public L r) (on_shut Halt (B (p + 11) (R.guarded L r true)) λ e E₁. pick (D.within E₁ L) (Onward (e + 3) (R.guarded L r false)) (Halt LoopNotKept e)) (Halt NotPublic p))
+      (Halt LoopNotKept p)
 
   -- one record, given the walk of the blocks in it
   abbrev pub instr_with : (ℕ → R.Env → Ending R.Env) → Record → ℕ → R.Env → Walking R.Env
@@ -76,7 +76,7 @@ module _ (t : Table) (R : Rules) (D : Tests R) where
 
   -- records by f until one shuts the block; k bounds their number
   unfoldable pub type_block : (ℕ → R.Env → Walking R.Env) → ℕ → ℕ → R.Env → Ending R.Env
-  type_block f zero p E = Failed CutShort p
+  type_block f zero p E = Failed TableCut p
   type_block f (suc k) p E = on_next (f p E) (type_block f k)
 
   -- d: remaining nesting; size: bound of the records of a block
@@ -96,7 +96,7 @@ module _ (t : Table) (R : Rules) (D : Tests R) where
 
   -- function g, from its in-environment to its RETURN
   unfoldable pub type_function : ℕ → ℕ → Ending R.Env
-  type_function size g = on_shut Failed (type_block (type_instr 16 size) size (t.start g) (R.enter g)) λ p E. pick (D.within E (R.leave g)) (Reached p E) (Failed NotWithinOut p)
+  type_function size g = on_shut Failed (type_block (type_instr 16 size) size (t.start g) (R.enter g)) λ p E. pick (D.within E (R.leave g)) (Reached p E) (Failed ReturnDoesNotFit p)
 
   pub shut_at : (i : Record) (B : ℕ → R.Env → Ending R.Env) (p : ℕ) (E : R.Env) → Closes i → instr_with B i p E ≡ Closed p E
   shut_at i B p E = of_closing (λ i. instr_with B i p E ≡ Closed p E) (λ _. refl) refl (λ _. refl) refl i

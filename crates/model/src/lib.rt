@@ -8,21 +8,21 @@ ghost use Rattle.model.specs.Numbers.{fault_number, stop_number, refusal, Number
 // What is at fault, in 01's order. As numbers: 1 to 16.
 #[derive(Clone, Copy, Debug, PartialEq, Eq)]
 pub enum Fault {
-    TooLong = 1,
-    CutShort = 2,
-    UnknownKind = 3,
+    TableTooLong = 1,
+    TableCut = 2,
+    WrongKind = 3,
     OutOfRange = 4,
     WrongPlace = 5,
     TooDeep = 6,
-    NotLower = 7,
-    EntryStatus = 8,
-    BytesAfter = 9,
+    CallNotLower = 7,
+    EntryUpdated = 8,
+    BytesAfterEnd = 9,
     NotPublic = 10,
     WrongStatus = 11,
-    NotWithinLoop = 12,
-    NotWithinIn = 13,
-    NotWithinOut = 14,
-    WrongLengths = 15,
+    LoopNotKept = 12,
+    CallDoesNotFit = 13,
+    ReturnDoesNotFit = 14,
+    WrongLength = 15,
     BadList = 16,
 }
 
@@ -52,21 +52,21 @@ impl TryFrom<u8> for Fault {
 
     fn try_from(number: u8) -> Result<Fault, NoFault> {
         match number {
-            1 => Ok(Fault::TooLong),
-            2 => Ok(Fault::CutShort),
-            3 => Ok(Fault::UnknownKind),
+            1 => Ok(Fault::TableTooLong),
+            2 => Ok(Fault::TableCut),
+            3 => Ok(Fault::WrongKind),
             4 => Ok(Fault::OutOfRange),
             5 => Ok(Fault::WrongPlace),
             6 => Ok(Fault::TooDeep),
-            7 => Ok(Fault::NotLower),
-            8 => Ok(Fault::EntryStatus),
-            9 => Ok(Fault::BytesAfter),
+            7 => Ok(Fault::CallNotLower),
+            8 => Ok(Fault::EntryUpdated),
+            9 => Ok(Fault::BytesAfterEnd),
             10 => Ok(Fault::NotPublic),
             11 => Ok(Fault::WrongStatus),
-            12 => Ok(Fault::NotWithinLoop),
-            13 => Ok(Fault::NotWithinIn),
-            14 => Ok(Fault::NotWithinOut),
-            15 => Ok(Fault::WrongLengths),
+            12 => Ok(Fault::LoopNotKept),
+            13 => Ok(Fault::CallDoesNotFit),
+            14 => Ok(Fault::ReturnDoesNotFit),
+            15 => Ok(Fault::WrongLength),
             16 => Ok(Fault::BadList),
             _ => Err(NoFault(number)),
         }
@@ -83,12 +83,12 @@ pub struct Refusal {
 // Why a run ends. As numbers: 20 to 26.
 #[derive(Clone, Copy, Debug, PartialEq, Eq)]
 pub enum Stop {
-    ListEnded = 20,
+    ListUsedUp = 20,
     Returned = 21,
     WrongDirective = 22,
-    InitAstray = 23,
-    OutOfBounds = 24,
-    NoSuchPlace = 25,
+    InitMisspeculating = 23,
+    AccessOutOfRange = 24,
+    NoSuchTarget = 25,
     NoRoom = 26,
 }
 

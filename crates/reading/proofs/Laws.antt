@@ -10,7 +10,7 @@ use Rattle.std.specs.Prelude.{Result, Ok, Err}
 use borrow.Author.Tests.{le-leb}
 use Rattle.model.specs.Numbers.{refusal, then}
 use Rattle.model.specs.Records.{length_pos}
-use Rattle.model.specs.declared.Fault.TheVariants.{CutShort}
+use Rattle.model.specs.declared.Fault.TheVariants.{TableCut}
 use Rattle.model.specs.declared.Refusal.{Refusal}
 use Rattle.model.specs.declared.Sizes.{Sizes}
 use Rattle.model.specs.declared.Walked.{Walked}
@@ -34,7 +34,7 @@ module _ (d cur : ℕ) (z : Sizes) (t : List ℕ) (c : ℕ) where
   step = instr_at d cur z t c
 
   -- past the end an instruction is cut
-  instr_end : (at : ℕ) → length t ≤ at → step at ≡ Err (refusal CutShort at)
+  instr_end : (at : ℕ) → length t ≤ at → step at ≡ Err (refusal TableCut at)
   unfolding record_at
   instr_end at le = rw (instr_is d cur z t c at) (simp le-leb)
 

@@ -2,7 +2,7 @@
 use Rattle.std.specs.Prelude.{ℕ, zero, suc, ◌+◌, ◌-◌, List, [], ◌∷◌, Bool, true, length, ltb, leb, eqb, Result, Ok, Err}
 use Rattle.model.specs.Tests.{pick}
 use Rattle.model.specs.Numbers.{refusal, then}
-use Rattle.model.specs.declared.Fault.TheVariants.{TooLong, CutShort, UnknownKind, WrongPlace, TooDeep, NotLower, BytesAfter}
+use Rattle.model.specs.declared.Fault.TheVariants.{TableTooLong, TableCut, WrongKind, WrongPlace, TooDeep, CallNotLower, BytesAfterEnd}
 use Rattle.model.specs.declared.Refusal.{Refusal}
 use Rattle.model.specs.declared.Sizes.{Sizes}
 use Rattle.model.specs.declared.Record.{Record}
@@ -26,11 +26,11 @@ unfoldable pub allowed : ℕ → ℕ → Bool
 allowed c k = find k true ((0x21, eqb c 0x21) ∷ (0x22, eqb c 0x22) ∷ (0x24, eqb c 0x24) ∷ (0x25, eqb c 0x25) ∷ [])
 
 unfoldable pub record_at : Sizes → List ℕ → ℕ → ℕ → Decoded
-record_at z t c at = pick (leb (length t) at) (Err (refusal CutShort at)) (pick (allowed c (byte t at)) (decode_at z t at) (Err (refusal UnknownKind at)))
+record_at z t c at = pick (leb (length t) at) (Err (refusal TableCut at)) (pick (allowed c (byte t at)) (decode_at z t at) (Err (refusal WrongKind at)))
 
 -- a CALL of f in function `cur`: only of a lower one
 unfoldable pub call_at : ℕ → ℕ → ℕ → ℕ → Result Walked Refusal
-call_at cur at next f = pick (ltb f cur) (Ok (Next next)) (Err (refusal NotLower at))
+call_at cur at next f = pick (ltb f cur) (Ok (Next next)) (Err (refusal CallNotLower at))
 
 -- the place met is the place named; else the later record, at p, is at fault
 abbrev pub met : {A : Type 0} → ℕ → ℕ → ℕ → Result A Refusal → Result A Refusal
@@ -62,7 +62,7 @@ onward g (Shut p) = Ok p
 
 -- records by f until one shuts the block; k bounds their number
 unfoldable pub block_with : (ℕ → Result Walked Refusal) → ℕ → ℕ → To
-block_with f zero at = Err (refusal CutShort at)
+block_with f zero at = Err (refusal TableCut at)
 block_with f (suc k) at = then (f at) (onward (block_with f k))
 
 -- an instruction of function `cur` with d nestings left, c being the closing kind awaited
@@ -84,7 +84,7 @@ function_at z t i at = then (record_at z t 0x25 at) λ _. met at (start_of z t i
 
 -- the last n functions, and nothing after them
 unfoldable pub functions_at : Sizes → List ℕ → ℕ → ℕ → To
-functions_at z t zero at = pick (eqb at (length t)) (Ok at) (Err (refusal BytesAfter at))
+functions_at z t zero at = pick (eqb at (length t)) (Ok at) (Err (refusal BytesAfterEnd at))
 functions_at z t (suc n) at = then (function_at z t (z.functions - suc n) at) (functions_at z t n)
 
 -- ---- THE TABLE
@@ -92,4 +92,4 @@ unfoldable pub parts_at : Sizes → List ℕ → To
 parts_at z t = then (sizes_at t 0) (λ p. then (arrays_at t z.arrays p) (λ q. then (signatures_at z t z.functions q) (functions_at z t z.functions)))
 
 unfoldable pub read_at : List ℕ → Result Sizes Refusal
-read_at t = pick (ltb 32768 (length t)) (Err (refusal TooLong 0)) (then (parts_at (sizes_of t) t) (λ _. Ok (sizes_of t)))
+read_at t = pick (ltb 32768 (length t)) (Err (refusal TableTooLong 0)) (then (parts_at (sizes_of t) t) (λ _. Ok (sizes_of t)))

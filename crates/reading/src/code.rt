@@ -45,12 +45,12 @@ impl Reader<'_> {
         ensures { result ≡ record_at self.now.table.sizes self.now.table.bytes.now (closing_byte c) at }
     {
         let Some(&kind) = self.table.bytes.get(at) else {
-            return Err(Fault::CutShort.at(at));
+            return Err(Fault::TableCut.at(at));
         };
         if c.allows(kind) {
             return records::decode(&self.table, at);
         }
-        Err(Fault::UnknownKind.at(at))
+        Err(Fault::WrongKind.at(at))
     }
 
     // The IF at `at`: two blocks, each closed by its own kind.
@@ -98,7 +98,7 @@ impl Reader<'_> {
         match record {
             Record::Do(_) => Ok(Walked::Next(next)),
             Record::Call { function, .. } if function < self.function => Ok(Walked::Next(next)),
-            Record::Call { .. } => Err(Fault::NotLower.at(at)),
+            Record::Call { .. } => Err(Fault::CallNotLower.at(at)),
             Record::If { to, .. } => self.branch_at(at, next, to),
             Record::While { to, .. } => self.loop_at(at, next, to),
             Record::Else { .. } | Record::Endif | Record::Endwhile { .. } | Record::Return => {
@@ -151,7 +151,7 @@ pub(crate) fn functions(table: &Table, from: usize) -> Result<usize, Refusal>
         at = function(table, i, at)?;
     }
     if at != table.bytes.len() {
-        return Err(Fault::BytesAfter.at(at));
+        return Err(Fault::BytesAfterEnd.at(at));
     }
     Ok(at)
 }

@@ -15,7 +15,7 @@ pub fn read(t: &[u8]) -> Result<Sizes, Refusal>
     ensures { result ≡ read_at t.now }
 {
     if 32768 < t.len() {
-        return Err(Fault::TooLong.at(0));
+        return Err(Fault::TableTooLong.at(0));
     }
     let table = Table {
         bytes: t,

@@ -5,7 +5,7 @@ use Rattle.std.proofs.lemmas.Bool.{ne_eqb}
 use Rattle.model.specs.Tests.{pick, all, test}
 use Rattle.model.specs.Numbers.{refusal, then}
 use Rattle.model.specs.Records.{length_of, length_pos}
-use Rattle.model.specs.declared.Fault.TheVariants.{CutShort, UnknownKind, OutOfRange}
+use Rattle.model.specs.declared.Fault.TheVariants.{TableCut, WrongKind, OutOfRange}
 use Rattle.model.specs.declared.Refusal.{Refusal}
 use Rattle.model.specs.declared.Sizes.{Sizes}
 use Rattle.model.specs.declared.Record.{Record}
@@ -17,9 +17,9 @@ use Rattle.records.specs.Kinds.{tested, fields_in, fields_of}
 
 -- a record of n bytes with these fields; 0 bytes where no kind is known
 abbrev by_length : List ℕ → ℕ → ℕ → Result Record Refusal → Decoded
-by_length t at n f = pick (eqb n 0) (Err (refusal UnknownKind at)) (pick (ltb (length t - at) n) (Err (refusal CutShort at)) (then f (λ (r : Record). Ok (r, at + n))))
+by_length t at n f = pick (eqb n 0) (Err (refusal WrongKind at)) (pick (ltb (length t - at) n) (Err (refusal TableCut at)) (then f (λ (r : Record). Ok (r, at + n))))
 
-one_row : (t : List ℕ) (at n : ℕ) (b : Bool) (r : Record) → 1 ≤ n → pick (ltb (length t - at) n) (Err (refusal CutShort at)) (pick b (Ok (r, at + n)) (Err (refusal OutOfRange at))) ≡ by_length t at n (tested at b r)
+one_row : (t : List ℕ) (at n : ℕ) (b : Bool) (r : Record) → 1 ≤ n → pick (ltb (length t - at) n) (Err (refusal TableCut at)) (pick b (Ok (r, at + n)) (Err (refusal OutOfRange at))) ≡ by_length t at n (tested at b r)
 one_row t at n true r p = rw (ne_eqb n 0 (λ e. omega arith)) refl
 one_row t at n false r p = rw (ne_eqb n 0 (λ e. omega arith)) refl
 
@@ -31,14 +31,14 @@ rows t at k (r ∷ rs) =
     (λ _. one_row t at (length_of r.2) (all r.1) r.2 (length_pos r.2))
     (λ _. rows t at k rs)
 
-pub decode_by : (z : Sizes) (t : List ℕ) (at : ℕ) → decode_at z t at ≡ pick (leb (length t) at) (Err (refusal CutShort at)) (by_length t at (code_length (byte t at)) (fields_of (byte t at) z t at))
+pub decode_by : (z : Sizes) (t : List ℕ) (at : ℕ) → decode_at z t at ≡ pick (leb (length t) at) (Err (refusal TableCut at)) (by_length t at (code_length (byte t at)) (fields_of (byte t at) z t at))
 unfolding code_length row_at decode_at fields_of
 decode_by z t at = rw (rows t at (byte t at) (rows_of z t at)) refl
 
 -- the record that is read, and where the next one is due
 pub record_past : (z : Sizes) (t : List ℕ) (at : ℕ) → length t ≤ at → record_of z t at ≡ Return
 unfolding decode_at
-record_past z t at l = record_bad z t at {x = refusal CutShort at} (rw (le-leb (length t) at l) refl)
+record_past z t at l = record_bad z t at {x = refusal TableCut at} (rw (le-leb (length t) at l) refl)
 
 pub next_got : (z : Sizes) (t : List ℕ) (at : ℕ) (r : Record) (n : ℕ) → at < length t → decode_at z t at ≡ Ok (r, n) → next_of z t at ≡ n
 next_got z t at r n l h = rw (next_on z t at l, record_got z t at h) (sym (good z t at h).next)

@@ -2,7 +2,7 @@
 use Rattle.std.specs.Prelude.{ℕ, ◌+◌, Bool, List, [], ◌∷◌, eqb, ltb, Result, Ok, Err}
 use Rattle.model.specs.Tests.{pick, all}
 use Rattle.model.specs.Numbers.{refusal, operation_of}
-use Rattle.model.specs.declared.Fault.TheVariants.{UnknownKind, OutOfRange}
+use Rattle.model.specs.declared.Fault.TheVariants.{WrongKind, OutOfRange}
 use Rattle.model.specs.declared.Operation.{Operation}
 use Rattle.model.specs.declared.Refusal.{Refusal}
 use Rattle.model.specs.declared.Sizes.{Sizes}
@@ -50,7 +50,7 @@ index_at z t at a i = tested at (ltb (word16 t (at + i)) (words_at z t a)) (word
 
 -- the record of kind k at `at`, by its row, with no look at its length
 abbrev pub fields_in : ℕ → ℕ → List Row → Result Record Refusal
-fields_in at k [] = Err (refusal UnknownKind at)
+fields_in at k [] = Err (refusal WrongKind at)
 fields_in at k (r ∷ rs) = pick (eqb k r.0) (tested at (all r.1) r.2) (fields_in at k rs)
 
 unfoldable pub fields_of : ℕ → Sizes → List ℕ → ℕ → Result Record Refusal

@@ -109,13 +109,13 @@ pub fn decode(table: &Table, at: usize) -> Result<(Record, usize), Refusal>
     ensures { result ≡ decode_at table.now.sizes table.now.bytes.now at }
 {
     if table.bytes.len() <= at {
-        return Err(Fault::CutShort.at(at));
+        return Err(Fault::TableCut.at(at));
     }
     let Some(kind) = Kind::of(table.bytes[at]) else {
-        return Err(Fault::UnknownKind.at(at));
+        return Err(Fault::WrongKind.at(at));
     };
     if table.bytes.len() - at < kind.length() {
-        return Err(Fault::CutShort.at(at));
+        return Err(Fault::TableCut.at(at));
     }
     let fields = Fields { table: *table, at };
     let record = fields.record(kind)?;

@@ -13,7 +13,7 @@ use Rattle.model.specs.Memory.{offset_in}
 use Rattle.model.specs.InOrder.{up_to, code_from}
 use Rattle.model.specs.Sites.{home_of, site}
 use Rattle.model.specs.Machine.{operate, access, step, run}
-use Rattle.model.specs.declared.Stop.TheVariants.{ListEnded}
+use Rattle.model.specs.declared.Stop.TheVariants.{ListUsedUp}
 use Rattle.format.specs.Format.{row_at, decode_at, words_from}
 use Rattle.format.specs.Head.{sizes_at, array_at, signature_at, arrays_at, signatures_at}
 use Rattle.format.specs.Layout.{record_of, return_of}
@@ -64,7 +64,7 @@ runs =
       regs = 0 ∷ 7 ∷ 1111 ∷ [];
       mem = 1 ∷ 2 ∷ 3 ∷ 4 ∷ 101 ∷ 102 ∷ 103 ∷ 104 ∷ [];
       dirs = astray;
-      stop = record { stop = ListEnded; place = 55; steps = 19; mis = true; masked = true };
+      stop = record { stop = ListUsedUp; place = 55; steps = 19; mis = true; masked = true };
       regs' = 0 ∷ 5 ∷ 1111 ∷ [];
       mem' = 1 ∷ 2 ∷ 3 ∷ 4 ∷ 101 ∷ 102 ∷ 103 ∷ 104 ∷ [];
       obs' = 112 ∷ 112 ∷ 112 ∷ 112 ∷ 113 ∷ 0 ∷ 112 ∷ 114 ∷ 0 ∷ 0 ∷ 0 ∷ 0 ∷ 0 ∷ 112 ∷ 112 ∷ 113 ∷ 0 ∷ 112 ∷ 114 ∷ 0 ∷ 0 ∷ 0 ∷ 0 ∷ 0 ∷ 112 ∷ 112 ∷ 113 ∷ 0 ∷ 112 ∷ 112 ∷ 112 ∷ 112 ∷ 0 ∷ 0 ∷ 0 ∷ 0 ∷ 0 ∷ 0 ∷ 0 ∷ 0 ∷ 0 ∷ 0 ∷ 0 ∷ 0 ∷ 0 ∷ 0 ∷ 0 ∷ 0 ∷ 0 ∷ 0 ∷ 0 ∷ 0 ∷ 0 ∷ 0 ∷ 0 ∷ 0 ∷ 0 ∷ 0 ∷ 0 ∷ 0 ∷ [];
@@ -73,7 +73,7 @@ runs =
       regs = 0 ∷ 7 ∷ 2222 ∷ [];
       mem = 1 ∷ 2 ∷ 3 ∷ 4 ∷ 201 ∷ 202 ∷ 203 ∷ 204 ∷ [];
       dirs = astray;
-      stop = record { stop = ListEnded; place = 55; steps = 19; mis = true; masked = true };
+      stop = record { stop = ListUsedUp; place = 55; steps = 19; mis = true; masked = true };
       regs' = 0 ∷ 5 ∷ 2222 ∷ [];
       mem' = 1 ∷ 2 ∷ 3 ∷ 4 ∷ 201 ∷ 202 ∷ 203 ∷ 204 ∷ [];
       obs' = 112 ∷ 112 ∷ 112 ∷ 112 ∷ 113 ∷ 0 ∷ 112 ∷ 114 ∷ 0 ∷ 0 ∷ 0 ∷ 0 ∷ 0 ∷ 112 ∷ 112 ∷ 113 ∷ 0 ∷ 112 ∷ 114 ∷ 0 ∷ 0 ∷ 0 ∷ 0 ∷ 0 ∷ 112 ∷ 112 ∷ 113 ∷ 0 ∷ 112 ∷ 112 ∷ 112 ∷ 112 ∷ 0 ∷ 0 ∷ 0 ∷ 0 ∷ 0 ∷ 0 ∷ 0 ∷ 0 ∷ 0 ∷ 0 ∷ 0 ∷ 0 ∷ 0 ∷ 0 ∷ 0 ∷ 0 ∷ 0 ∷ 0 ∷ 0 ∷ 0 ∷ 0 ∷ 0 ∷ 0 ∷ 0 ∷ 0 ∷ 0 ∷ 0 ∷ 0 ∷ [];
@@ -82,7 +82,7 @@ runs =
       regs = 9 ∷ 7 ∷ 1111 ∷ [];
       mem = 1 ∷ 2 ∷ 3 ∷ 4 ∷ 101 ∷ 102 ∷ 103 ∷ 104 ∷ [];
       dirs = strays;
-      stop = record { stop = ListEnded; place = 91; steps = 14; mis = true; masked = true };
+      stop = record { stop = ListUsedUp; place = 91; steps = 14; mis = true; masked = true };
       regs' = 0 ∷ 104 ∷ 1111 ∷ [];
       mem' = 1 ∷ 2 ∷ 3 ∷ 4 ∷ 101 ∷ 102 ∷ 5 ∷ 104 ∷ [];
       obs' = 112 ∷ 112 ∷ 112 ∷ 112 ∷ 113 ∷ 1 ∷ 112 ∷ 114 ∷ 0 ∷ 9 ∷ 0 ∷ 0 ∷ 0 ∷ 112 ∷ 113 ∷ 1 ∷ 112 ∷ 114 ∷ 0 ∷ 9 ∷ 0 ∷ 0 ∷ 0 ∷ 112 ∷ 112 ∷ 113 ∷ 0 ∷ 0 ∷ 0 ∷ 0 ∷ 0 ∷ 0 ∷ 0 ∷ 0 ∷ 0 ∷ 0 ∷ 0 ∷ 0 ∷ 0 ∷ 0 ∷ 0 ∷ 0 ∷ 0 ∷ 0 ∷ 0 ∷ 0 ∷ 0 ∷ 0 ∷ 0 ∷ 0 ∷ 0 ∷ 0 ∷ 0 ∷ 0 ∷ 0 ∷ 0 ∷ 0 ∷ 0 ∷ 0 ∷ 0 ∷ [];
@@ -91,7 +91,7 @@ runs =
       regs = 9 ∷ 7 ∷ 2222 ∷ [];
       mem = 1 ∷ 2 ∷ 3 ∷ 4 ∷ 201 ∷ 202 ∷ 203 ∷ 204 ∷ [];
       dirs = strays;
-      stop = record { stop = ListEnded; place = 91; steps = 14; mis = true; masked = true };
+      stop = record { stop = ListUsedUp; place = 91; steps = 14; mis = true; masked = true };
       regs' = 0 ∷ 204 ∷ 2222 ∷ [];
       mem' = 1 ∷ 2 ∷ 3 ∷ 4 ∷ 201 ∷ 202 ∷ 5 ∷ 204 ∷ [];
       obs' = 112 ∷ 112 ∷ 112 ∷ 112 ∷ 113 ∷ 1 ∷ 112 ∷ 114 ∷ 0 ∷ 9 ∷ 0 ∷ 0 ∷ 0 ∷ 112 ∷ 113 ∷ 1 ∷ 112 ∷ 114 ∷ 0 ∷ 9 ∷ 0 ∷ 0 ∷ 0 ∷ 112 ∷ 112 ∷ 113 ∷ 0 ∷ 0 ∷ 0 ∷ 0 ∷ 0 ∷ 0 ∷ 0 ∷ 0 ∷ 0 ∷ 0 ∷ 0 ∷ 0 ∷ 0 ∷ 0 ∷ 0 ∷ 0 ∷ 0 ∷ 0 ∷ 0 ∷ 0 ∷ 0 ∷ 0 ∷ 0 ∷ 0 ∷ 0 ∷ 0 ∷ 0 ∷ 0 ∷ 0 ∷ 0 ∷ 0 ∷ 0 ∷ 0 ∷ 0 ∷ [];

@@ -23,7 +23,7 @@ use Rattle.model.specs.declared.Sizes.{Sizes}
 use Rattle.model.specs.declared.Packed.{Packed}
 use Rattle.model.specs.declared.Record.{Record}
 use Rattle.model.specs.declared.Fault.{Fault}
-use Rattle.model.specs.declared.Fault.TheVariants.{TooDeep, NotPublic, NotWithinLoop, NotWithinOut}
+use Rattle.model.specs.declared.Fault.TheVariants.{TooDeep, NotPublic, LoopNotKept, ReturnDoesNotFit}
 use Rattle.format.specs.Format.{Decoded, decode_at}
 use Rattle.format.specs.Laws.{good}
 use Rattle.model.specs.Records.{Closes, length_of}
@@ -107,7 +107,7 @@ module _ (z : Sizes) (t : List ℕ) where
   if_second d at r E {p} {F} h n b e = ap (λ (w : Ending Env). on_shut Halt w (λ n E₂. Onward (n + 1) (join F E₂))) (sym e) ∙ if_is d at r E h n b
 
   -- WHILE
-  pub while_out : (d at r : ℕ) (L : Packed) (E : Env) → within z.registers z.arrays E (env_of L) ≡ false → Halt NotWithinLoop at ≡ while_walk z t d at r L E
+  pub while_out : (d at r : ℕ) (L : Packed) (E : Env) → within z.registers z.arrays E (env_of L) ≡ false → Halt LoopNotKept at ≡ while_walk z t d at r L E
   while_out d at r L E h = rw h refl
 
   pub while_private : (d at r : ℕ) (L : Packed) (E : Env) → within z.registers z.arrays E (env_of L) ≡ true → eqb ((env_of L).regs r) 0 ≡ false → Halt NotPublic at ≡ while_walk z t d at r L E
@@ -118,7 +118,7 @@ module _ (z : Sizes) (t : List ℕ) where
 
   pub while_is : (d at r : ℕ) (L : Packed) (E : Env) {w : Ending Env} → within z.registers z.arrays E (env_of L) ≡ true → eqb ((env_of L).regs r) 0 ≡ true → (d ≡ 0 → ⊥)
       → block_walk z t (d - 1) (size z t) (at + 11) (guarded (env_of L) r true) ≡ w
-      → on_shut Halt w (λ e E₁. pick (within z.registers z.arrays E₁ (env_of L)) (Onward (e + 3) (guarded (env_of L) r false)) (Halt NotWithinLoop e)) ≡ while_walk z t d at r L E
+      → on_shut Halt w (λ e E₁. pick (within z.registers z.arrays E₁ (env_of L)) (Onward (e + 3) (guarded (env_of L) r false)) (Halt LoopNotKept e)) ≡ while_walk z t d at r L E
   while_is zero at r L E h k n b = absurd (n refl)
   while_is (suc d) at r L E h k n b = rw (sym b, h, k, sub-one) refl
 
@@ -156,7 +156,7 @@ module _ (z : Sizes) (t : List ℕ) where
 
   -- a function, once its block is walked
   pub function_is : (g : ℕ) {w : Ending Env} → block_walk z t 16 (size z t) (start_of z t g) (env_of (in_of z t g)) ≡ w
-      → on_shut Failed w (λ p E. pick (within z.registers z.arrays E (env_of (out_of z t g))) (Reached p E) (Failed NotWithinOut p)) ≡ function_walk z t g
+      → on_shut Failed w (λ p E. pick (within z.registers z.arrays E (env_of (out_of z t g))) (Reached p E) (Failed ReturnDoesNotFit p)) ≡ function_walk z t g
   unfolding type_function
   function_is g b = rw (sym b) refl
 

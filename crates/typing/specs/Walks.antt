@@ -12,7 +12,7 @@ use Rattle.model.specs.declared.Packed.{Packed}
 use Rattle.model.specs.declared.Simple.{Simple}
 use Rattle.model.specs.declared.Walked.{Walked}
 use Rattle.model.specs.declared.Walked.TheVariants.{Next, Shut}
-use Rattle.model.specs.declared.Fault.TheVariants.{NotWithinLoop, NotWithinIn}
+use Rattle.model.specs.declared.Fault.TheVariants.{LoopNotKept, CallDoesNotFit}
 use Rattle.model.specs.declared.Refusal.{Refusal}
 use Rattle.format.specs.Layout.{in_of, out_of, table_with}
 use Rattle.typing.specs.declared.Walk.{Walk}
@@ -43,12 +43,12 @@ join_walk E₁ w = on_shut Halt w λ n E₂. Onward (n + 1) (join E₁ E₂)
 
 -- the end of the body of a WHILE with the loop environment L on r
 abbrev pub back_walk : Sizes → ℕ → Packed → Ending Env → Walking Env
-back_walk z r L w = on_shut Halt w λ e E₁. pick (within z.registers z.arrays E₁ (env_of L)) (Onward (e + 3) (guarded (env_of L) r false)) (Halt NotWithinLoop e)
+back_walk z r L w = on_shut Halt w λ e E₁. pick (within z.registers z.arrays E₁ (env_of L)) (Onward (e + 3) (guarded (env_of L) r false)) (Halt LoopNotKept e)
 
 module _ (z : Sizes) (t : List ℕ) where
   -- a CALL of f at `at`, with `next` after it
   abbrev pub call_walk : ℕ → Bool → ℕ → ℕ → Env → Walking Env
-  call_walk f m at next E = pick (within z.registers z.arrays E (env_of (in_of z t f))) (Onward next (returned (env_of (out_of z t f)) m E)) (Halt NotWithinIn at)
+  call_walk f m at next E = pick (within z.registers z.arrays E (env_of (in_of z t f))) (Onward next (returned (env_of (out_of z t f)) m E)) (Halt CallDoesNotFit at)
 
   abbrev pub table : Table
   table = table_with z t

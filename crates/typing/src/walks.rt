@@ -53,7 +53,7 @@ impl ReadTable<'_> {
     {
         let into = WordEnv::from(self.table.in_of(function));
         if !e.within(into) {
-            return Err(Fault::NotWithinIn.at(at));
+            return Err(Fault::CallDoesNotFit.at(at));
         }
         let out = WordEnv::from(self.table.out_of(function));
         Ok(Walk {
@@ -101,7 +101,7 @@ impl ReadTable<'_> {
     {
         let kept = WordEnv::from(packed);
         if !e.within(kept) {
-            return Err(Fault::NotWithinLoop.at(at));
+            return Err(Fault::LoopNotKept.at(at));
         }
         if !kept.is_public(register) {
             return Err(Fault::NotPublic.at(at));
@@ -111,7 +111,7 @@ impl ReadTable<'_> {
         }
         let body = self.block(at + 11, depth - 1, kept.guarded(register, true))?;
         if !body.env.within(kept) {
-            return Err(Fault::NotWithinLoop.at(body.place));
+            return Err(Fault::LoopNotKept.at(body.place));
         }
         Ok(Walk {
             to: Walked::Next(body.place + 3),
@@ -171,7 +171,7 @@ impl ReadTable<'_> {
         let end = self.block(self.table.start_of(g), 16, into)?;
         let out = WordEnv::from(self.table.out_of(g));
         if !end.env.within(out) {
-            return Err(Fault::NotWithinOut.at(end.place));
+            return Err(Fault::ReturnDoesNotFit.at(end.place));
         }
         Ok(())
     }

@@ -9,7 +9,7 @@ use Rattle.model.specs.Memory.{set_alike, disjoint}
 use Rattle.model.specs.Levels.{Env, Covers, Within}
 use Rattle.model.specs.Records.{SimpleReaches}
 use Rattle.model.specs.Table.{Table}
-use Rattle.model.specs.declared.Stop.TheVariants.{OutOfBounds, NoSuchPlace}
+use Rattle.model.specs.declared.Stop.TheVariants.{AccessOutOfRange, NoSuchTarget}
 use Rattle.model.specs.declared.Status.{Status}
 use Rattle.model.specs.declared.Status.TheVariants.{Unknown, Updated, Outdated}
 use Rattle.model.specs.declared.Operation.{Operation}
@@ -143,7 +143,7 @@ module _ (t : Table) where
 
   pub access_touches : (a i : ℕ) (mis : Bool) (dir : Directive) → Touches a mis (access t a i mis dir)
   unfolding access
-  access_touches a i mis dir = test (ltb i (words_of t a)) (λ b. Touches a mis (pick b (in_range t a i dir) (pick mis (strayed t dir) (Err OutOfBounds)))) (λ e. near dir (ltb→lt i (words_of t a) (rw e tt))) (λ _. far mis dir)
+  access_touches a i mis dir = test (ltb i (words_of t a)) (λ b. Touches a mis (pick b (in_range t a i dir) (pick mis (strayed t dir) (Err AccessOutOfRange)))) (λ e. near dir (ltb→lt i (words_of t a) (rw e tt))) (λ _. far mis dir)
     where
       near : (dir : Directive) → i < words_of t a → Touches a mis (in_range t a i dir)
       near Plain l = (λ _. refl, l)
@@ -151,12 +151,12 @@ module _ (t : Table) where
       near (Stray b j) l = tt
       near (Back q) l = tt
 
-      far : (mis : Bool) (dir : Directive) → Touches a mis (pick mis (strayed t dir) (Err OutOfBounds))
+      far : (mis : Bool) (dir : Directive) → Touches a mis (pick mis (strayed t dir) (Err AccessOutOfRange))
       far false dir = tt
       far true Plain = tt
       far true (Branch b) = tt
-      far true (Stray b j) = test (ltb b t.arrays) (λ z. Touches a true (pick (z && ltb j (words_of t b)) (Ok (b, j)) (Err NoSuchPlace)))
-          (λ _. test (ltb j (words_of t b)) (λ z. Touches a true (pick z (Ok (b, j)) (Err NoSuchPlace))) (λ e. (λ q. absurd (true≢false q), ltb→lt j (words_of t b) (rw e tt))) (λ _. tt)) (λ _. tt)
+      far true (Stray b j) = test (ltb b t.arrays) (λ z. Touches a true (pick (z && ltb j (words_of t b)) (Ok (b, j)) (Err NoSuchTarget)))
+          (λ _. test (ltb j (words_of t b)) (λ z. Touches a true (pick z (Ok (b, j)) (Err NoSuchTarget))) (λ e. (λ q. absurd (true≢false q), ltb→lt j (words_of t b) (rw e tt))) (λ _. tt)) (λ _. tt)
       far true (Back q) = tt
 
   module _ (E : Env) (mis : Bool) (x y : Data) (h : Alike t E mis x y) (dir : Directive) where

@@ -20,7 +20,7 @@ use Rattle.model.specs.Typing.{Read}
 use Rattle.model.specs.Decide.{record_fault, typing_tests}
 use Rattle.model.proofs.Decide.{typing_right}
 use Rattle.model.specs.declared.Fault.{Fault}
-use Rattle.model.specs.declared.Fault.TheVariants.{NotPublic, NotWithinLoop}
+use Rattle.model.specs.declared.Fault.TheVariants.{NotPublic, LoopNotKept}
 use Rattle.model.specs.declared.Packed.{Packed}
 use Rattle.model.specs.declared.Record.{Record}
 use Rattle.model.specs.declared.Record.TheVariants.{Do, Call, If, Else, Endif, While, Endwhile, Return}
@@ -43,9 +43,9 @@ module _ (t : Table) (R : Rules) (fault : Record → Fault) (g : ℕ) where
       ⊎ ((E₂ : R.Env) × Types t R g (e + 3) (R.guarded E r false) m E₂ × Faults t R fault g (m + 1) (R.join E₁ E₂) n k)))))
 
   abbrev OfWhile : ℕ → R.Env → Fault → ℕ → ℕ → ℕ → R.Env → Type 0
-  OfWhile p E n k r e L = ((R.Within E L → ⊥) × Here n k NotWithinLoop p) ⊎ (R.Within E L × (((R.Public L r → ⊥) × Here n k NotPublic p)
+  OfWhile p E n k r e L = ((R.Within E L → ⊥) × Here n k LoopNotKept p) ⊎ (R.Within E L × (((R.Public L r → ⊥) × Here n k NotPublic p)
       ⊎ (R.Public L r × (Faults t R fault g (p + 11) (R.guarded L r true) n k
-      ⊎ ((E₁ : R.Env) × Types t R g (p + 11) (R.guarded L r true) e E₁ × (((R.Within E₁ L → ⊥) × Here n k NotWithinLoop e)
+      ⊎ ((E₁ : R.Env) × Types t R g (p + 11) (R.guarded L r true) e E₁ × (((R.Within E₁ L → ⊥) × Here n k LoopNotKept e)
       ⊎ (R.Within E₁ L × Faults t R fault g (e + 3) (R.guarded L r false) n k)))))))
 
   abbrev Meets : ℕ → R.Env → Fault → ℕ → Record → Type 0

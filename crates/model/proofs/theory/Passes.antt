@@ -16,7 +16,7 @@ use Rattle.model.specs.theory.Places.{nesting}
 use Rattle.model.proofs.theory.Places.{spans}
 use Rattle.model.specs.Walk.{Onward, Halt, Ending, Reached, Failed, on_next, on_shut, Tests, Right, if_with, while_with, instr_with, type_block, type_instr, inside, type_function, shut_at, single_at, instr_at_lem}
 use Rattle.model.specs.declared.Fault.{Fault}
-use Rattle.model.specs.declared.Fault.TheVariants.{NotWithinLoop, NotWithinOut}
+use Rattle.model.specs.declared.Fault.TheVariants.{LoopNotKept, ReturnDoesNotFit}
 use Rattle.model.specs.declared.Packed.{Packed}
 use Rattle.model.specs.declared.Record.{Record}
 use Rattle.model.specs.declared.Record.TheVariants.{Do, Call, If, Else, Endif, While, Endwhile, Return}
@@ -139,7 +139,7 @@ module _ (t : Table) (R : Rules) (D : Tests R) (g size : ℕ) (ok : Right R D g)
       L = R.loop L₀
 
       body : (d k : ℕ) (E : R.Env) → max (suc x) z ≤ d → q < suc k + p → R.Within E L → R.Public L r → (w : Ending R.Env) → Says (p + 11) (R.guarded L r true) e w
-          → Says p E q (on_next (on_shut Halt w λ e E₁. pick (D.within E₁ L) (Onward (e + 3) (R.guarded L r false)) (Halt NotWithinLoop e)) (walk d k))
+          → Says p E q (on_next (on_shut Halt w λ e E₁. pick (D.within E₁ L) (Onward (e + 3) (R.guarded L r false)) (Halt LoopNotKept e)) (walk d k))
       body d k E u v a o (Failed m c) h = while_body i a o h
       body d k E u v a o (Reached m E₁) (s, b) = rw s (pick_ind (λ w. Says p E q (on_next w (walk d k))) (D.within E₁ L)
           (λ c. let f = (ok.within E₁ L).0 c in says_map p (e + 3) q E (R.guarded L r false) (walk d k (e + 3) (R.guarded L r false))
@@ -237,7 +237,7 @@ module _ (t : Table) (R : Rules) (D : Tests R) (g size : ℕ) (ok : Right R D g)
   unfolding type_function
   verdict s n l = go (walk 16 size (t.start g) (R.enter g)) (says_right s.body (rw s.returns tt) l 16 size (R.enter g) n (omega arith))
     where
-      go : (w : Ending R.Env) → Says (t.start g) (R.enter g) (t.ret g) w → Verdict (on_shut Failed w λ p E. pick (D.within E (R.leave g)) (Reached p E) (Failed NotWithinOut p))
+      go : (w : Ending R.Env) → Says (t.start g) (R.enter g) (t.ret g) w → Verdict (on_shut Failed w λ p E. pick (D.within E (R.leave g)) (Reached p E) (Failed ReturnDoesNotFit p))
       go (Failed m p) h = on_the_way h
       go (Reached p E) (e, h) = pick_ind Verdict (D.within E (R.leave g))
           (λ b. record { last = E; body = h; returns = s.returns; fits = (ok.within E (R.leave g)).0 b })

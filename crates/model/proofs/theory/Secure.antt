@@ -9,7 +9,7 @@ use Rattle.model.specs.Levels.{Env, Covers, Within}
 use Rattle.model.specs.Records.{simple_length, SimpleReaches, Reaches}
 use Rattle.model.specs.Sites.{site}
 use Rattle.model.specs.Table.{Table}
-use Rattle.model.specs.declared.Stop.TheVariants.{ListEnded, Returned, NoRoom}
+use Rattle.model.specs.declared.Stop.TheVariants.{ListUsedUp, Returned, NoRoom}
 use Rattle.model.specs.declared.Status.{Status}
 use Rattle.model.specs.declared.Status.TheVariants.{Unknown, Updated, Outdated}
 use Rattle.model.specs.declared.Directive.{Directive}
@@ -194,7 +194,7 @@ module _ (t : Table) (at : ℕ → ℕ → Env → Type 0) where
     -- demand 3, from any two related states
     pub run_same : (ds : List Directive) (room : ℕ) (c : Ctl) (x y : Data) → Related c x y → SameEnd (run t ds room c x) (run t ds room c y)
     unfolding run
-    run_same [] room c x y r = test (ended t c) (λ b. SameEnd (pick b (final Returned 0 c x []) (final ListEnded 0 c x [])) (pick b (final Returned 0 c y []) (final ListEnded 0 c y []))) (λ _. (refl, refl, refl, refl, r)) (λ _. (refl, refl, refl, refl, r))
+    run_same [] room c x y r = test (ended t c) (λ b. SameEnd (pick b (final Returned 0 c x []) (final ListUsedUp 0 c x [])) (pick b (final Returned 0 c y []) (final ListUsedUp 0 c y []))) (λ _. (refl, refl, refl, refl, r)) (λ _. (refl, refl, refl, refl, r))
     run_same (d ∷ ds) room c x y r =
         test (ended t c) (λ b. SameEnd (pick b (final Returned 0 c x []) (after_step (step t c d x) room c x (run t ds))) (pick b (final Returned 0 c y []) (after_step (step t c d y) room c y (run t ds))))
         (λ _. (refl, refl, refl, refl, r))

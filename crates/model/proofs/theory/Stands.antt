@@ -7,7 +7,7 @@ use mathlib.Core.List.{List, [], ◌∷◌}
 use Rattle.model.specs.Tests.{pick, test, same}
 use Rattle.model.specs.Sites.{site}
 use Rattle.model.specs.Table.{Table}
-use Rattle.model.specs.declared.Stop.TheVariants.{ListEnded, Returned, NoRoom}
+use Rattle.model.specs.declared.Stop.TheVariants.{ListUsedUp, Returned, NoRoom}
 use Rattle.model.specs.declared.Record.{Record}
 use Rattle.model.specs.declared.Record.TheVariants.{Do, Call, If, Else, Endif, While, Endwhile, Return}
 use Rattle.model.specs.declared.Directive.{Directive}
@@ -90,6 +90,6 @@ module _ (t : Table) (reads : Known t) where
 
   pub run_stands : (ds : List Directive) (room : ℕ) (c : Ctl) (x : Data) → Stands t reads c → EndStands t reads (run t ds room c x)
   unfolding run
-  run_stands [] room c x s = test (ended t c) (λ b. EndStands t reads (pick b (final Returned 0 c x []) (final ListEnded 0 c x []))) (λ _. s) (λ _. s)
+  run_stands [] room c x s = test (ended t c) (λ b. EndStands t reads (pick b (final Returned 0 c x []) (final ListUsedUp 0 c x []))) (λ _. s) (λ _. s)
   run_stands (d ∷ ds) room c x s = test (ended t c) (λ b. EndStands t reads (pick b (final Returned 0 c x []) (after_step (step t c d x) room c x (run t ds)))) (λ _. s)
       (λ _. after_stands (step t c d x) room c x s (step_stands c s d x) (run t ds) (run_stands ds))
