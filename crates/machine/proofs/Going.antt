@@ -16,7 +16,6 @@ use Rattle.model.specs.declared.Directive.TheVariants.{Plain}
 use Rattle.model.specs.declared.Observation.{Observation}
 use Rattle.model.specs.declared.Observation.TheVariants.{Nothing, Way, Address}
 use Rattle.model.specs.declared.Record.TheVariants.{Call}
-use Rattle.format.specs.Format.{words_from}
 use Rattle.format.specs.Layout.{sizes_of, record_of, return_of, table_with, table_of}
 use Rattle.reading.specs.Reading.{read_at}
 use Rattle.reading.specs.theory.Known.{known}
@@ -24,7 +23,7 @@ use Rattle.reading.specs.theory.Limits.{read_limits}
 use Rattle.machine.specs.declared.State.{State}
 use Rattle.machine.specs.Directives.{directive_at, directives_from, bytes_of, all_bytes}
 use Rattle.machine.specs.States.{words, length_stack, ctl_of, data_of}
-use Rattle.machine.specs.Runs.{ran, total, ran_from}
+use Rattle.machine.specs.Runs.{ran, ran_from}
 use Rattle.machine.specs.Turns.{Lent, HasRoom, TurnMoves, TurnHalts}
 
 three : {A : Type 0} (f : List ℕ → ℕ → ℕ → A) {o o' : List ℕ} {p p' q q' : ℕ} → o ≡ o' → p ≡ p' → q ≡ q' → f o p q ≡ f o' p' q'

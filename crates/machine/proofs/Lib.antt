@@ -2,5 +2,4 @@ pub mod Words
 pub mod Planning
 pub mod Going
 pub mod Stepping
-pub mod Answers
 pub mod Moving

@@ -1,9 +1,9 @@
 -- What act and one_turn show of their answers, over plain values: one law for each way that they return.
-use Rattle.std.proofs.Common.{◌≡◌, ℕ, suc, ◌+◌, ◌-◌, ◌<◌, ◌≤◌, Bool, true, false, List, [], ◌∷◌, length, sym, refl, ap, ◌∙◌, subst, arith, le-ltb, lt-ltb, eq-eqb, ne_eqb, Some, None, Ok, Err}
+use Rattle.std.proofs.Common.{◌≡◌, ℕ, suc, ◌+◌, ◌-◌, ◌<◌, ◌≤◌, Bool, false, List, [], ◌∷◌, length, sym, refl, ap, ◌∙◌, subst, arith, le-ltb, lt-ltb, eq-eqb, ne_eqb, Some, None, Ok, Err}
 use lib.Seq.{sets}
 use borrow.Author.Tests.{lt-leb}
 use Rattle.model.specs.Table.{Table, entry}
-use Rattle.model.specs.Machine.{Ctl, Data, flagged, Went, step, size, ended, run, start_ctl}
+use Rattle.model.specs.Machine.{Ctl, Data, step, size, ended, run, start_ctl}
 use Rattle.model.specs.declared.Sizes.{Sizes}
 use Rattle.model.specs.declared.Stop.{Stop}
 use Rattle.model.specs.declared.Stop.TheVariants.{ListUsedUp, Returned, NoRoom}
@@ -16,8 +16,8 @@ use Rattle.machine.specs.declared.Stacking.{Stacking}
 use Rattle.machine.specs.declared.Stacking.TheVariants.{Same, Push, Pop, Clear}
 use Rattle.machine.specs.declared.Plan.{Plan}
 use Rattle.machine.specs.Directives.{directive_at, directives_from, bytes_of}
-use Rattle.machine.specs.States.{words, length_stack, ctl_of, ctl_next, array_next, arrayed, RoomFor, data_of, applied, view_plan, stacked, below}
-use Rattle.machine.specs.Turns.{Lent, HasRoom, ActMoves, ActHalts, TurnMoves, TurnHalts}
+use Rattle.machine.specs.States.{words, length_stack, ctl_of, array_next, arrayed, RoomFor, data_of, applied, view_plan, stacked, below}
+use Rattle.machine.specs.Turns.{Lent, HasRoom, ActMoves, ActHalts, TurnHalts}
 use Rattle.machine.proofs.Moving.{Moved, Grows, only_calls}
 use Rattle.machine.proofs.Going.{directives_end, directives_bad, directives_on, run_ended, run_used, run_step, Going, StandsAt, own_sizes}
 use Rattle.machine.specs.Everywhere.{start_stands}
@@ -94,11 +94,7 @@ module _ (t : Table) (s : State) where
       turn_bad l b = used (λ j. directives_bad j dirs at l b)
 
       module _ (dir : Directive) (next : ℕ) (l : at < length dirs) (g : directive_at dirs at ≡ Some (dir, next)) where
-        -- the step is made
-        pub turn_moves : (s' : State) (b : Lent) → ActMoves t s dir a s' b → TurnMoves t s dirs at a next s' b
-        turn_moves s' b w = record { dir = dir; going = not_over; inside = l; told = g; acts = w }
-
-        -- or not
+        -- the step is not made
         pub turn_halts : (k : Stop) (s' : State) (b : Lent) → ActHalts t s dir a k s' b → TurnHalts t s dirs at a k s' b
         turn_halts k s' b h = record {
           stays = h.stays;
@@ -108,6 +104,8 @@ module _ (t : Table) (s : State) where
               ∙ run_step t dir (directives_from d.0 dirs next) (length a.obs - a.seen) (ctl_of s) (here a) not_over
               ∙ h.stopped (run t (directives_from d.0 dirs next));
         }
+
+pub ruleset acts = (act_stops, act_full, act_goes)
 
 -- 01's start
 pub going_start : (t : List ℕ) (z : Sizes) (e : read_at t ≡ Ok z) (dirs : List ℕ) (a : Lent) (s : State)

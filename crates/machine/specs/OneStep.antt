@@ -48,18 +48,25 @@ module _ (t : Table) (s : State) (dir : Directive) (a : Lent) where
       let depth : u.depth ≡ v.depth = sym (length_stack u.depth u.stack) ∙ ap length stack ∙ length_stack v.depth v.stack in
       let row : u.stack ≡ v.stack = m.array ∙ ap (arrayed s) stack ∙ sym n.array in
       let end : b.seen ≡ d.seen = m.seen' ∙ ap (λ (o : Observation). a.seen + size o) saw ∙ sym n.seen' in
-      let obs : b.obs ≡ d.obs = m.wrote ∙ ap (λ (o : Observation). sets a.obs a.seen (bytes_of o)) saw ∙ sym n.wrote in
-      (λ i. record { place = (ctl i).place; stack = row i; depth = depth i; mis = (ctl i).mis; masked = (dat i).masked }, λ i. record { regs = (dat i).regs; mem = (dat i).mem; obs = obs i; seen = end i })
+      let obs : b.obs ≡ d.obs = m.wrote ∙ ap (λ (o : Observation). sets a.obs a.seen (bytes_of o)) saw ∙ sym n.wrote in (
+        λ i. record { place = (ctl i).place; stack = row i; depth = depth i; mis = (ctl i).mis; masked = (dat i).masked },
+        λ i. record { regs = (dat i).regs; mem = (dat i).mem; obs = obs i; seen = end i },
+      )
 
   -- a step that is made is not one that halts
   not_both : (u v : State) (k : Stop) (b d : Lent) → ActMoves t s dir a u b → ActHalts t s dir a k v d → ⊥
   not_both u v k b d m n =
-      let made : after_step (step t (ctl_of s) dir (data_of s a.regs a.mem)) (length a.obs - a.seen) (ctl_of s) (data_of s a.regs a.mem) any ≡ final NoRoom 1 (ctl_of u) (data_of u b.regs b.mem) (m.saw ∷ []) = rw (m.stepped, le-leb (size m.saw) (length a.obs - a.seen) m.room) in
+      let x = data_of s a.regs a.mem in
+      let made : after_step (step t (ctl_of s) dir x) (length a.obs - a.seen) (ctl_of s) x any
+      ≡ final NoRoom 1 (ctl_of u) (data_of u b.regs b.mem) (m.saw ∷ [])
+      = rw (m.stepped, le-leb (size m.saw) (length a.obs - a.seen) m.room) in
       let steps = ap steps_in (sym made ∙ n.stopped any) in
       absurd (omega (arith, steps))
 
-  pub one_step : (p q : Result (Unit {0}) Stop) (u v : State) (b d : Lent) → Acts t s dir a p u b → Acts t s dir a q v d → (p ≡ q) × (u ≡ v) × (b ≡ d)
+  pub one_step : (p q : Result (Unit {0}) Stop) (u v : State) (b d : Lent)
+      → Acts t s dir a p u b → Acts t s dir a q v d → (p ≡ q) × (u ≡ v) × (b ≡ d)
   one_step (Ok p) (Ok q) u v b d x y = let e = both_moved u v b d x y in (refl, e.0, e.1)
   one_step (Ok p) (Err k) u v b d x y = absurd (not_both u v k b d x y)
   one_step (Err j) (Ok q) u v b d x y = absurd (not_both v u j d b y x)
-  one_step (Err j) (Err k) u v b d x y = (ap Err (ap stop_in (sym (x.stopped any) ∙ y.stopped any)), x.stays ∙ sym y.stays, sym x.kept ∙ y.kept)
+  one_step (Err j) (Err k) u v b d x y =
+      (ap Err (ap stop_in (sym (x.stopped any) ∙ y.stopped any)), x.stays ∙ sym y.stays, sym x.kept ∙ y.kept)

@@ -4,7 +4,7 @@ use Rattle.std.specs.Prelude.{ℕ, ◌+◌, Bool, false, List, [], ◌∷◌, le
 use Rattle.std.proofs.lemmas.List.Edits.{sets}
 use Rattle.model.specs.Tests.{pick}
 use Rattle.model.specs.Numbers.{refusal}
-use Rattle.model.specs.Machine.{Final, final, run, start_ctl}
+use Rattle.model.specs.Machine.{Data, Final, final, run, start_ctl}
 use Rattle.model.specs.declared.Fault.TheVariants.{WrongLength}
 use Rattle.model.specs.declared.Refusal.{Refusal}
 use Rattle.model.specs.declared.Sizes.{Sizes}
@@ -29,12 +29,15 @@ total (w ∷ ws) = w + total ws
 -- n steps were made before, and `seen` bytes of the buffer written
 abbrev pub ran_from : List ℕ → ℕ → ℕ → Final → Ran
 ran_from obs seen n (final k m c x os) =
-    ran (Ok (record { stop = k; place = c.place; steps = n + m; mis = c.mis; masked = x.masked })) x.regs x.mem (sets obs seen (all_bytes os))
+    ran (Ok (record { stop = k; place = c.place; steps = n + m; mis = c.mis; masked = x.masked }))
+    x.regs x.mem (sets obs seen (all_bytes os))
 
 -- from 01's start
 abbrev pub started : Sizes → List ℕ → List ℕ → List ℕ → List ℕ → List ℕ → Ran
 started z t regs mem dirs obs =
-    ran_from obs 0 0 (run (table_with z t) (directives_of dirs) (length obs) (start_ctl (table_with z t) false) (record { regs = regs; mem = mem; masked = false }))
+    let table = table_with z t in
+    let x : Data = record { regs = regs; mem = mem; masked = false } in
+    ran_from obs 0 0 (run table (directives_of dirs) (length obs) (start_ctl table false) x)
 
 -- registers and memory are of the table's sizes
 abbrev pub fitting : Sizes → List ℕ → ℕ → ℕ → Bool

@@ -54,7 +54,8 @@ module _ (t : Table) (s : State) where
     pub stays : s' ≡ s
     pub kept : a ≡ b
     pub stopped : (f : ℕ → Ctl → Data → Final)
-        → after_step (step t (ctl_of s) dir (data_of s a.regs a.mem)) (length a.obs - a.seen) (ctl_of s) (data_of s a.regs a.mem) f
+        → after_step (step t (ctl_of s) dir (data_of s a.regs a.mem)) (length a.obs - a.seen)
+        (ctl_of s) (data_of s a.regs a.mem) f
         ≡ final k 0 (ctl_of s) (data_of s a.regs a.mem) []
 
   -- what a step answers, and its state afterwards

@@ -3,10 +3,11 @@
 ghost use Rattle.std.specs.Prelude.{◌≡◌, ◌≤◌, length};
 ghost use Rattle.format.specs.Format.{decode_at};
 ghost use Rattle.machine.specs.Plans.{table_at, ctl_at, data_at, planned, lands_in, Due, IsDue};
-ghost use Rattle.machine.specs.States.{ctl_of, data_of, view_plan, LandsIn, table_in};
+ghost use Rattle.machine.specs.States.{ctl_of, view_plan, LandsIn};
+ghost use Rattle.machine.specs.Turns.{data_in, table_of_machine};
 ghost use Rattle.model.specs.Machine.{step, step_of, to, pass};
 
-use crate::{Effect, Plan, State, Step};
+use crate::{Effect, Machine, Plan, State, Step};
 use layout::Table;
 use model::{Directive, Observation, Record, Refusal, Sizes, Stop};
 
@@ -19,29 +20,24 @@ fn due(bytes: &[u8], sizes: Sizes, place: usize) -> Result<(Record, usize), Refu
     records::decode(&Table { bytes, sizes }, place)
 }
 
-// What the record at the state's place would do under the directive. Where none can be read, RETURN stands for it.
-pub(crate) fn plan(
-    table: &Table,
-    state: &State,
-    dir: Directive,
-    regs: &[u32],
-    mem: &[u32],
-) -> Result<Plan, Stop>
-    requires { length table.now.bytes.now ≤ 32768 }
-    ensures plans { view_plan (table_in table.now) state.now result (data_of state.now regs.now mem.now)
-        ≡ step (table_in table.now) (ctl_of state.now) dir (data_of state.now regs.now mem.now) }
-    ensures lands { LandsIn (table_in table.now) result }
-{
-    let step = Step {
-        table,
-        state,
-        dir,
-        regs,
-        mem,
-    };
-    match due(table.bytes, table.sizes, state.place) {
-        Ok((r, next)) => step.by_record(r, next),
-        Err(_) => step.returning(),
+impl Machine<'_> {
+    // What the record at the state's place would do under the directive. Where none can be read, RETURN stands for it.
+    pub(crate) fn plan(&self, state: &State, dir: Directive) -> Result<Plan, Stop>
+        ensures plans { view_plan (table_of_machine self.now) state.now result (data_in self.now state.now)
+            ≡ step (table_of_machine self.now) (ctl_of state.now) dir (data_in self.now state.now) }
+        ensures lands { LandsIn (table_of_machine self.now) result }
+    {
+        let step = Step {
+            table: self.table,
+            state,
+            dir,
+            regs: self.regs,
+            mem: self.mem,
+        };
+        match due(self.table.bytes, self.table.sizes, state.place) {
+            Ok((r, next)) => step.by_record(r, next),
+            Err(_) => step.returning(),
+        }
     }
 }
 

@@ -2,29 +2,17 @@
 // 24, 22, 25, 26, before anything changes: a plan is made first, and room for its observation looked for, before it
 // is carried out.
 ghost use Rattle.std.specs.Prelude.{◌≡◌};
-ghost use Rattle.model.specs.Machine.{step};
 ghost use Rattle.model.specs.Table.{entry};
 ghost use Rattle.machine.specs.Runs.{ran, started};
-ghost use Rattle.machine.specs.States.{ctl_of, view_plan, LandsIn};
-ghost use Rattle.machine.specs.Turns.{lent_in, data_in, table_of_machine, Same, HasRoom, Acts, Steps, Turns};
+ghost use Rattle.machine.specs.Turns.{lent_in, table_of_machine, Same, HasRoom, Acts, Steps, Turns};
 
 use crate::bytes::{directive_at, put_observation, size_of};
 use crate::memory::apply;
-use crate::plans::plan;
 use crate::states::{moved, start};
-use crate::{End, Machine, Plan, State};
+use crate::{End, Machine, State};
 use model::{Directive, Stop};
 
 impl Machine<'_> {
-    // What a step under a directive would do. Looked at through a `&`, what is lent stays as it is.
-    fn plan(&self, s: &State, dir: Directive) -> Result<Plan, Stop>
-        ensures plans { view_plan (table_of_machine self.now) s.now result (data_in self.now s.now)
-            ≡ step (table_of_machine self.now) (ctl_of s.now) dir (data_in self.now s.now) }
-        ensures lands { LandsIn (table_of_machine self.now) result }
-    {
-        plan(self.table, s, dir, self.regs, self.mem)
-    }
-
     // The place of the entry's RETURN: the table's last byte.
     #[tactic(auto, using(crate::proofs::Going::last_byte))]
     fn last_place(&self) -> usize
@@ -34,7 +22,7 @@ impl Machine<'_> {
     }
 
     // The step under one directive, on plain values: the state after it. A stop changes nothing.
-    #[tactic(auto, using(crate::proofs::Stepping::act_stops, crate::proofs::Stepping::act_full))]
+    #[tactic(auto, using(crate::proofs::Stepping::acts))]
     fn act(&mut self, s: &State, dir: Directive) -> Result<State, Stop>
         requires { HasRoom (table_of_machine self.old) s.now }
         ensures same { Same self.old self.new }
@@ -45,10 +33,11 @@ impl Machine<'_> {
         if self.obs.len() - self.seen < size {
             return Err(Stop::NoRoom);
         }
+        let after = moved(s, plan.next);
         put_observation(self.obs, self.seen, plan.seen);
-        self.seen += size;
         apply(self.table, plan.effect, self.regs, self.mem);
-        Ok(moved(s, plan.next))
+        self.seen += size;
+        Ok(after)
     }
 
     // 01: "One step is given the machine's state by reference and updates it there."
@@ -65,7 +54,8 @@ impl Machine<'_> {
     fn one_turn(&mut self, s: &mut State, dirs: &[u8], at: usize) -> Result<usize, Stop>
         requires { HasRoom (table_of_machine self.old) s.old }
         ensures same { Same self.old self.new }
-        ensures turns { Turns (table_of_machine self.old) s.old dirs.now at (lent_in self.old) result s.new (lent_in self.new) }
+        ensures turns { Turns (table_of_machine self.old) s.old dirs.now at
+            (lent_in self.old) result s.new (lent_in self.new) }
     {
         if s.place == self.last_place() {
             return Err(Stop::Returned);
@@ -86,7 +76,7 @@ impl Machine<'_> {
         ensures same { Same self.old self.new }
         ensures ran { ran (Ok result) self.new.regs.now self.new.mem.now self.new.obs.now
             ≡ started self.old.table.now.sizes self.old.table.now.bytes.now
-                self.old.regs.now self.old.mem.now dirs.now self.old.obs.now }
+            self.old.regs.now self.old.mem.now dirs.now self.old.obs.now }
     {
         let mut s = start(self.table);
         let mut at = 0;

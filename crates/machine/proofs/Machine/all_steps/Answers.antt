@@ -13,8 +13,11 @@ pub turns-init : goal.turns-init
 turns-init c =
     let m = c.args.self.now in
     let k = m.table.now in
-    let e = c.start-s.ensures in
-    (record { table = refl; regs = refl; mem = refl; obs = refl }, m.reads, going_start k.bytes.now k.sizes m.reads c.args.dirs.now (lent_in m) c.start-s.result e.0 e.1 c.requires)
+    let s = c.start-s in (
+      record { table = refl; regs = refl; mem = refl; obs = refl },
+      m.reads,
+      going_start k.bytes.now k.sizes m.reads c.args.dirs.now (lent_in m) s.result s.ensures.0 s.ensures.1 c.requires,
+    )
 
 pub one_turn-requires : goal.one_turn-requires
 one_turn-requires c =
@@ -34,8 +37,12 @@ turns-preserved c =
     let k = m.table.now in
     let L = c.turns in
     let w = rw L.invariant.0.table at c.in-Ok.ensures.turns in
-    let on = directive_on _ _ w.inside w.told in
-    (search rules, L.invariant.1, moves k.bytes.now k.sizes L.invariant.1 (start_ctl (table_in k) false) (words m.regs.now m.mem.now false) c.args.dirs.now m.obs.now L.s L.at L.steps (lent_in L.self) L.invariant.2 c.in-Ok.next c.one_turn.new.s (lent_in c.one_turn.new.self) w on)
+    let on = directive_on _ _ w.inside w.told in (
+      search rules,
+      L.invariant.1,
+      moves k.bytes.now k.sizes L.invariant.1 (start_ctl (table_in k) false) (words m.regs.now m.mem.now false)
+          c.args.dirs.now m.obs.now L.s L.at L.steps (lent_in L.self) L.invariant.2 _ _ (lent_in c.one_turn.new.self) w on,
+    )
 
 pub returns-in-Err-clause-ran : goal.returns-in-Err-clause-ran
 returns-in-Err-clause-ran c =
@@ -43,4 +50,5 @@ returns-in-Err-clause-ran c =
     let k = m.table.now in
     let L = c.turns in
     let w = rw L.invariant.0.table at c.in-Err.ensures.turns in
-    halts k.bytes.now k.sizes L.invariant.1 (start_ctl (table_in k) false) (words m.regs.now m.mem.now false) c.args.dirs.now m.obs.now L.s L.at L.steps (lent_in L.self) L.invariant.2 c.in-Err.stop c.one_turn.new.s (lent_in c.one_turn.new.self) w
+    halts k.bytes.now k.sizes L.invariant.1 (start_ctl (table_in k) false) (words m.regs.now m.mem.now false)
+    c.args.dirs.now m.obs.now L.s L.at L.steps (lent_in L.self) L.invariant.2 _ _ (lent_in c.one_turn.new.self) w
