@@ -1,4 +1,3 @@
 pub mod Packed
-pub mod Statuses
 pub mod Turns
 pub mod Ready

@@ -2,7 +2,7 @@
 -- fault (Rattle.model.specs.Faults) are stated there by themselves; here the check is held to them.
 use Rattle.std.specs.Prelude.{ℕ, suc, ◌≡◌, ◌↔◌, List, length, Result, Ok, Err}
 use Rattle.std.proofs.Math.Path.{refl}
-use Rattle.std.proofs.Common.{sym, ap, subst, ◌∙◌}
+use Rattle.std.proofs.Common.{ap, ◌∙◌}
 use Rattle.model.specs.Rules.{typing, Typed}
 use Rattle.model.specs.Faults.{FirstFault}
 use Rattle.model.proofs.theory.OneFault.{one_fault, typed_faultless}
@@ -16,7 +16,7 @@ use Rattle.model.specs.declared.Refusal.{Refusal}
 use Rattle.format.specs.Layout.{sizes_of, table_of}
 use Rattle.reading.specs.Reading.{read_at}
 use Rattle.reading.specs.theory.Linked.{sizes_read, all_read}
-use Rattle.typing.specs.Check.{Verdict, accepted, typed, answered, check_at}
+use Rattle.typing.specs.Check.{Verdict, typed, answered, check_at}
 
 -- the table reads, by its sizes
 abbrev pub Readable : List ℕ → Type 0

@@ -1,6 +1,6 @@
 -- What the checker's environment stands for: the level in each slot. Only this file and its functions know how it is
 -- kept.
-use Rattle.std.specs.Prelude.{ℕ, ◌<◌, ◌≤◌, List, length}
+use Rattle.std.specs.Prelude.{ℕ, ◌<◌, ◌≤◌, List}
 use Rattle.model.specs.Levels.{Env}
 use Rattle.model.specs.Packing.{slot, env_of}
 use Rattle.model.specs.theory.Whole.{Whole}
@@ -23,6 +23,10 @@ Fit z = Whole z.registers z.arrays
 -- .. of both environments in the signature of f
 abbrev pub Signed : Sizes → List ℕ → ℕ → Type 0
 Signed z t f = Fit z (env_of (in_of z t f)) × Fit z (env_of (out_of z t f))
+
+-- .. in every signature
+abbrev pub AllSigned : Sizes → List ℕ → Type 0
+AllSigned z t = (f : ℕ) → f < z.functions → Signed z t f
 
 -- the sizes fit the slots
 pub record Small (z : Sizes) : Type 0 where

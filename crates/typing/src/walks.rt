@@ -1,13 +1,14 @@
 // The typing walk: blocks and records in table order, the environment carried along. The readers' cycle once more:
 // what falls is the nesting that is left, and within a block the bytes left.
-ghost use Rattle.std.specs.Prelude.{◌≡◌, ◌+◌, ◌<◌, ◌≤◌, length, ℕ};
+ghost use Rattle.std.specs.Prelude.{◌≡◌, ◌+◌, ◌<◌, ◌≤◌, length};
 ghost use Rattle.std.proofs.Props.{props};
 ghost use Rattle.model.specs.Packing.{env_of};
 ghost use Rattle.model.specs.Records.{SimpleFits};
 ghost use Rattle.model.specs.Typing.{on_pass, type_all};
 ghost use Rattle.model.specs.theory.Whole.{NoThrees};
-ghost use Rattle.typing.specs.Envs.{view_env, Fit, Signed, Small};
-ghost use Rattle.typing.specs.Walks.{view_walk, view_end, simple_walk, call_walk, table, size, record_walk, block_walk, if_walk, while_walk, function_walk};
+ghost use Rattle.typing.specs.Envs.{view_env, Fit, AllSigned, Small};
+ghost use Rattle.typing.specs.Walks.{view_walk, view_end, table, size, simple_walk, call_walk, if_walk, while_walk};
+ghost use Rattle.typing.specs.Walks.{record_walk, block_walk, function_walk};
 
 use crate::rules::{after_simple, fault_of};
 use crate::{BlockEnd, Walk, WordEnv};
@@ -19,7 +20,7 @@ use model::{Fault, Packed, Record, Refusal, Simple, Walked};
 pub(crate) struct ReadTable<'a> {
     pub table: Table<'a>,
     ghost small: { Small table.sizes } by { Prim.hlevel props },
-    ghost signed: { (f : ℕ) → f < table.sizes.functions → Signed table.sizes table.bytes.now f } by { Prim.hlevel props },
+    ghost signed: { AllSigned table.sizes table.bytes.now } by { Prim.hlevel props },
     ghost short: { length table.bytes.now ≤ 32768 },
 }
 

@@ -9,7 +9,7 @@ returns-then-levels_within c = λ n m w v.
     let a = c.args in
     let e = within_words_of n m a.self a.other (omega arith) (omega arith) (omega arith) (omega arith) w v in
     elim c.if-covers_status.branch [
-      then-covers_status x ↦ simp (e, sym c.covers_status.ensures, x.if-covers_status.true, sym x.levels_within.ensures, sym x.value-is ∙ c.if-levels_within.true) c.levels_within-then-levels_within.ensures
+      | then-covers_status x ↦ simp (e, sym c.covers_status.ensures, x.if-covers_status.true, sym x.levels_within.ensures, sym x.value-is ∙ c.if-levels_within.true) c.levels_within-then-levels_within.ensures
       | else-covers_status x ↦ cc
     ]
 
@@ -18,6 +18,6 @@ returns-else-levels_within c = λ n m w v.
     let a = c.args in
     let e = within_words_of n m a.self a.other (omega arith) (omega arith) (omega arith) (omega arith) w v in
     elim c.if-covers_status.branch [
-      then-covers_status x ↦ simp (e, sym c.covers_status.ensures, x.if-covers_status.true, sym x.levels_within.ensures, sym x.value-is ∙ c.if-levels_within.false) c.if-levels_within.false
+      | then-covers_status x ↦ simp (e, sym c.covers_status.ensures, x.if-covers_status.true, sym x.levels_within.ensures, sym x.value-is ∙ c.if-levels_within.false) c.if-levels_within.false
       | else-covers_status x ↦ simp (e, sym c.covers_status.ensures, x.if-covers_status.false, x.value-is)
     ]
