@@ -23,7 +23,7 @@ use layout::Table;
 use model::{Directive, Fault, Observation, Refusal, Stop};
 
 // The machine's state beside registers and memory. The stack never needs more than 31 places; with a 32nd, and at the
-// front, it is copied as four whole vector registers. So the state stands first where it is a field, too.
+// front, it is copied as four whole vector registers.
 #[derive(Clone, Copy)]
 pub struct State {
     pub stack: [u16; 32],
