@@ -1,9 +1,9 @@
 -- A shift by 2 * i goes past i slots.
-use Prim.Native.Nat.{ℕ, ◌+◌, ◌-◌, ◌*◌, ◌/◌, ◌%◌, ◌^◌, ◌<◌, ◌≤◌}
+use Prim.Native.Nat.{ℕ, ◌+◌, ◌-◌, ◌*◌, ◌/◌, ◌%◌, ◌^◌, ◌<◌}
 use native.Mathlib.Omega.{arith}
 use mathlib.Core.Path.{◌≡◌, sym, ap, ◌∙◌}
 use lib.Bits.{bit_and, bit_xor, xor_lt}
-use lib.Pow.{pow_pos, shl_exact}
+use lib.Pow.{shl_exact}
 use Rattle.model.specs.Packing.{slot}
 use Rattle.model.specs.theory.Words.{lows, put_word}
 use Rattle.model.proofs.theory.Words.{slot_is, slot_small, bits, mask_lows}
@@ -24,9 +24,6 @@ unfolding put_word
 put_shifted w i v l h = ap (bit_xor w) (shifted_up (bit_xor (slot w i) v) i (xor_lt 2 (slot w i) v (slot_small w i) h) l)
 
 -- the bits of the first n slots
-pub mask_pos : (n : ℕ) → n < 16 → 1 ≤ 1 * 2 ^ (2 * n) % 2 ^ 32
-mask_pos n l = rw (shifted_up 1 n (omega arith) l, sym (slots n)) (omega (arith, pow_pos (2 * n)))
-
 pub lows_shifted : (n : ℕ) → n < 16 → bit_and (lows 16) (1 * 2 ^ (2 * n) % 2 ^ 32 - 1) ≡ lows n
 lows_shifted n l = ap (λ (x : ℕ). bit_and (lows 16) (x - 1)) (shifted_up 1 n (omega arith) l ∙ e) ∙ mask_lows 16 n (omega arith)
   where

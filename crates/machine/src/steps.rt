@@ -81,6 +81,7 @@ impl Machine<'_> {
         let mut s = start(self.table);
         let mut at = 0;
         let mut steps = 0;
+        // (The label is the loop's name in its proofs.)
         'turns: loop {
             match self.one_turn(&mut s, dirs, at) {
                 Ok(next) => {
