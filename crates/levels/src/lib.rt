@@ -17,13 +17,11 @@ pub fn larger(a: u8, b: u8) -> u8
 }
 
 // A transient level made public.
+#[tactic(auto, unfolding(model::specs::Rules::settle))]
 pub fn settled(a: u8) -> u8
     ensures { result ≡ settle a }
 {
-    if a <= 1 {
-        return 0;
-    }
-    a
+    if a <= 1 { 0 } else { a }
 }
 
 // The level in slot i; past the slots it is public.
@@ -31,7 +29,7 @@ pub fn level(word: u32, i: u8) -> u8
     ensures { result ≡ slot word i }
 {
     if i < 16 {
-        let k = 2 * (i as u32);
+        let k = 2 * u32::from(i);
         return ((word >> k) % 4) as u8;
     }
     0
@@ -44,13 +42,14 @@ pub fn with_level(word: u32, i: u8, v: u8) -> u32
     if 16 <= i {
         return word;
     }
-    let k = 2 * (i as u32);
-    let old = level(word, i) as u32;
-    let new = (v % 4) as u32;
+    let k = 2 * u32::from(i);
+    let old = u32::from(level(word, i));
+    let new = u32::from(v % 4);
     word ^ ((old ^ new) << k)
 }
 
 // The larger level, slot by slot. A plain `a | b` would make 3 of 1 and 2.
+#[tactic(auto, unfolding(model::specs::theory::Words::lows, model::specs::theory::Words::join_words))]
 pub fn join_levels(a: u32, b: u32) -> u32
     ensures { result ≡ join_words 16 a b }
 {
@@ -59,6 +58,7 @@ pub fn join_levels(a: u32, b: u32) -> u32
 }
 
 // Each level of a is at most that of b: nothing rises where a is joined into b.
+#[tactic(auto, unfolding(model::specs::theory::Words::within_words))]
 pub fn levels_within(a: u32, b: u32) -> bool
     ensures { result ≡ within_words 16 a b }
 {
@@ -66,6 +66,7 @@ pub fn levels_within(a: u32, b: u32) -> bool
 }
 
 // Every transient level made public: the high bits alone.
+#[tactic(auto, unfolding(model::specs::theory::Words::lows, model::specs::theory::Words::settle_word))]
 pub fn settle_levels(a: u32) -> u32
     ensures { result ≡ settle_word 16 a }
 {
@@ -79,6 +80,6 @@ pub fn transients(n: u8) -> u32
     if 16 <= n {
         return 0x5555_5555;
     }
-    let k = 2 * (n as u32);
+    let k = 2 * u32::from(n);
     0x5555_5555 & ((1 << k) - 1)
 }

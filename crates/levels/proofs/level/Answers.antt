@@ -4,7 +4,7 @@ use Rattle.levels.proofs.Shifts.{shifted_down}
 use Rattle.levels.proofs.level.Goals as goal
 
 pub returns-then-i-lt16 : goal.returns-then-i-lt16
-returns-then-i-lt16 c = shifted_down c.args.word c.args.i
+returns-then-i-lt16 c = rw c.from-k.ensures (shifted_down c.args.word c.args.i)
 
 pub returns : goal.returns
 returns c = sym (slot_past 16 c.args.word c.args.i c.ranges.word.fits c.if-i-lt16.false)

@@ -12,4 +12,4 @@ returns-then-n-ge16 c = let e : min c.args.n 16 ≡ 16 = omega (arith, c.if-n-ge
 
 pub returns : goal.returns
 unfolding lows
-returns c = let e : min c.args.n 16 ≡ c.args.n = omega (arith, c.if-n-ge16.false) in lows_shifted c.args.n (omega (arith, c.if-n-ge16.false)) ∙ sym (ap lows e)
+returns c = let e : min c.args.n 16 ≡ c.args.n = omega (arith, c.if-n-ge16.false) in rw c.from-k.ensures (lows_shifted c.args.n (omega (arith, c.if-n-ge16.false)) ∙ sym (ap lows e))

@@ -10,4 +10,4 @@ pub returns : goal.returns
 returns c =
     let a = c.args in
     let l : a.i < 16 = omega (arith, c.if-i-ge16.false) in
-    rw (lt-ltb a.i 16 l) (ap (λ (x : ℕ). bit_xor a.word (bit_xor x (a.v % 4) * 2 ^ (2 * a.i) % 2 ^ 32)) c.level-old.ensures ∙ put_shifted a.word a.i (a.v % 4) l (omega arith))
+    rw (lt-ltb a.i 16 l, c.from-k.ensures, c.from-old.ensures, c.from-new.ensures) (ap (λ (x : ℕ). bit_xor a.word (bit_xor x (a.v % 4) * 2 ^ (2 * a.i) % 2 ^ 32)) c.level.ensures ∙ put_shifted a.word a.i (a.v % 4) l (omega arith))
