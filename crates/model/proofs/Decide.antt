@@ -34,12 +34,13 @@ meets_is (Protect d s) E = same_status_is E.status Updated
 meets_is (LoadFixed d a i) E = asks_nothing
 meets_is (StoreFixed a i s) E = asks_nothing
 
+-- what is picked as none passed its test
+sure : (b : Bool) (n : Fault) → pick b None (Some n) ≡ None → b ≡ true
+sure true n e = refl
+sure false n e = absurd (subst (λ (o : Option Fault). T (is_some o)) e tt)
+
 pub fault_met : (s : Simple) (E : Env) → fault_of s E ≡ None → meets s E ≡ true
-fault_met s E = pick_met (meets s E)
-  where
-    pick_met : (b : Bool) → pick b None (Some (simple_fault s)) ≡ None → b ≡ true
-    pick_met true e = refl
-    pick_met false e = absurd (subst (λ (o : Option Fault). T (is_some o)) e tt)
+fault_met s E = sure (meets s E) (simple_fault s)
 
 -- fault_of is none exactly where the record has what it asks, and else its own
 pub fault_none : (s : Simple) (E : Env) → (fault_of s E ≡ None) ↔ Needs s E

@@ -6,3 +6,4 @@ pub mod Decide
 pub mod Before
 pub mod WholeTable
 pub mod TwoRuns
+pub mod Numbers

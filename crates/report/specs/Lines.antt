@@ -23,6 +23,9 @@ at = 32 ∷ 97 ∷ 116 ∷ 32 ∷ []
 abbrev pub end : List ℕ
 end = 10 ∷ []
 
+abbrev pub refused_line : ℕ → ℕ → List ℕ
+refused_line n p = refused ++ (decimal n ++ (at ++ (decimal p ++ end)))
+
 abbrev pub line_of : Verdict → List ℕ
 line_of (Ok a) = accepted ++ (decimal a.functions ++ (functions ++ (decimal a.bytes ++ bytes)))
-line_of (Err e) = refused ++ (decimal (fault_number e.fault) ++ (at ++ (decimal e.place ++ end)))
+line_of (Err e) = refused_line (fault_number e.fault) e.place

@@ -4,11 +4,10 @@
 ghost use Rattle.std.specs.Prelude.{◌≡◌, ◌+◌, ◌≤◌, length, Ok, Err};
 ghost use Rattle.std.proofs.lemmas.List.Edits.{sets};
 ghost use Rattle.report.specs.Added.{Adds};
-ghost use Rattle.report.specs.Lines.{line_of};
+ghost use Rattle.report.specs.Lines.{line_of, refused_line};
 
 mod text;
 
-use model::Refusal;
 use text::Line;
 use typing::{Accepted, Verdict};
 
@@ -17,11 +16,26 @@ use typing::{Accepted, Verdict};
 pub fn verdict_line(v: Verdict, out: &mut [u8]) -> usize
     ensures { (result ≡ length (line_of v)) × (result ≤ 80) × (out.new ≡ sets out.old 0 (line_of v)) }
 {
-    let mut line = Line::new(out);
     match v {
-        Ok(whole) => accepted(&mut line, whole),
-        Err(refusal) => refused(&mut line, refusal),
+        Ok(whole) => accepted_line(whole, out),
+        Err(refusal) => refusal_line(refusal.fault.number(), refusal.place, out),
     }
+}
+
+fn accepted_line(whole: Accepted, out: &mut [u8]) -> usize
+    ensures { (result ≡ length (line_of (Ok whole))) × (result ≤ 80) × (out.new ≡ sets out.old 0 (line_of (Ok whole))) }
+{
+    let mut line = Line::new(out);
+    accepted(&mut line, whole);
+    line.length()
+}
+
+// The line of a refusal with any number, at the start of a lent buffer; how long it is.
+pub fn refusal_line(number: u8, place: usize, out: &mut [u8]) -> usize
+    ensures { (result ≡ length (refused_line number place)) × (result ≤ 80) × (out.new ≡ sets out.old 0 (refused_line number place)) }
+{
+    let mut line = Line::new(out);
+    refused(&mut line, number, place);
     line.length()
 }
 
@@ -37,14 +51,14 @@ fn accepted(line: &mut Line, whole: Accepted)
     line.text(b" bytes\n");
 }
 
-fn refused(line: &mut Line, refusal: Refusal)
+fn refused(line: &mut Line, number: u8, place: usize)
     requires { line.old.length ≤ 20 }
-    ensures adds { Adds line.old (line_of (Err refusal)) line.new }
+    ensures adds { Adds line.old (refused_line number place) line.new }
     ensures short { line.new.length ≤ line.old.length + 80 }
 {
     line.text(b"refused ");
-    line.number(usize::from(refusal.fault.number()));
+    line.number(usize::from(number));
     line.text(b" at ");
-    line.number(refusal.place);
+    line.number(place);
     line.text(b"\n");
 }

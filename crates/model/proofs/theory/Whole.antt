@@ -89,6 +89,10 @@ module _ (n m : ℕ) (E : Env) (w : Whole n m E) where
 pub join_whole : (n m : ℕ) (E F : Env) → Whole n m E → Whole n m F → Whole n m (join E F)
 join_whole n m E F w v = record { regs = join_levelled n E.regs F.regs w.regs v.regs; arrays = join_levelled m E.arrays F.arrays w.arrays v.arrays }
 
+pub ends_map : (P Q : Env → Type 0) → ((E : Env) → P E → Q E) → (w : Ending Env) → WhereEnds P w → WhereEnds Q w
+ends_map P Q f (Reached p E) h = f E h
+ends_map P Q f (Failed n p) h = tt
+
 -- the walk of a table whose signatures end whole
 module _ (t : Table) (leaves : (f : ℕ) → f < t.functions → Whole t.registers t.arrays (t.leave f)) where
   abbrev W : Env → Type 0
