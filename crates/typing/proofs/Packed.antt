@@ -40,12 +40,12 @@ pub within_slots : (n a b : ℕ) {r : Bool} → a < 4 ^ 16 → b < 4 ^ 16 → Le
 within_slots n a b h l w v e = sym (within_words_lem 16 n a b h l w v) ∙ sym e
 
 -- .. of two environments
-pub within_words_of : (n m : ℕ) (e f : WordEnv) → e.registers < 4 ^ 16 → f.registers < 4 ^ 16 → e.arrays < 4 ^ 16 → f.arrays < 4 ^ 16
+pub within_words_of : (n m : ℕ) (e f : WordEnv) → e.registers.0 < 4 ^ 16 → f.registers.0 < 4 ^ 16 → e.arrays.0 < 4 ^ 16 → f.arrays.0 < 4 ^ 16
     → Whole n m (view_env e) → Whole n m (view_env f)
-    → within n m (view_env e) (view_env f) ≡ (covers e.status f.status && (within_words 16 e.registers f.registers && within_words 16 e.arrays f.arrays))
+    → within n m (view_env e) (view_env f) ≡ (covers e.status f.status && (within_words 16 e.registers.0 f.registers.0 && within_words 16 e.arrays.0 f.arrays.0))
 unfolding within
 within_words_of n m e f a b c d w v =
-    simp (within_slots n e.registers f.registers a b w.regs v.regs refl, within_slots m e.arrays f.arrays c d w.arrays v.arrays refl) (three (covers e.status f.status) _ _)
+    simp (within_slots n e.registers.0 f.registers.0 a b w.regs v.regs refl, within_slots m e.arrays.0 f.arrays.0 c d w.arrays v.arrays refl) (three (covers e.status f.status) _ _)
   where
     three : (x y z : Bool) → all (x ∷ y ∷ z ∷ []) ≡ (x && (y && z))
     three true true true = refl

@@ -14,7 +14,7 @@ abbrev pub env_from : Status → ℕ → ℕ → Env
 env_from s r a = record { status = s; regs = slot r; arrays = slot a }
 
 abbrev pub view_env : WordEnv → Env
-view_env e = env_from e.status e.registers e.arrays
+view_env e = env_from e.status e.registers.0 e.arrays.0
 
 -- no slot is 3, and the slots that the table does not use are 0
 abbrev pub Fit : Sizes → Env → Type 0

@@ -6,7 +6,7 @@ ghost use Rattle.model.specs.Rules.{kill, guard_status, call_status, guarded, re
 ghost use Rattle.model.specs.theory.Whole.{Whole, NoThrees};
 ghost use Rattle.typing.specs.Envs.{env_from, view_env};
 
-use levels::{join_levels, level, levels_within};
+use levels::Levels;
 use model::{Packed, Status};
 
 // An environment: a status, and the levels of the registers and of the arrays, packed two bits a slot. The seven
@@ -14,8 +14,8 @@ use model::{Packed, Status};
 #[derive(Clone, Copy)]
 pub struct WordEnv {
     pub status: Status,
-    pub registers: u32,
-    pub arrays: u32,
+    pub registers: Levels,
+    pub arrays: Levels,
 }
 
 #[tactic(auto, unfolding(model::specs::Levels::same_status))]
@@ -77,8 +77,8 @@ fn status_of(b: u8) -> Status
 
 // Makes an environment of a status and the packed levels of registers and arrays. No other function writes a
 // `WordEnv` down.
-pub(crate) fn env_from(status: Status, registers: u32, arrays: u32) -> WordEnv
-    ensures { view_env result ≡ env_from status registers arrays }
+pub(crate) fn env_from(status: Status, registers: Levels, arrays: Levels) -> WordEnv
+    ensures { view_env result ≡ env_from status registers.0 arrays.0 }
 {
     WordEnv {
         status,
@@ -92,7 +92,7 @@ impl From<Packed> for WordEnv {
     fn from(p: Packed) -> WordEnv
         ensures { view_env result ≡ env_of p }
     {
-        env_from(status_of(p.status), p.registers, p.arrays)
+        env_from(status_of(p.status), Levels(p.registers), Levels(p.arrays))
     }
 }
 
@@ -101,7 +101,7 @@ impl WordEnv {
     pub(crate) fn is_public(self, i: u8) -> bool
         ensures { result ≡ eqb ((view_env self).regs i) 0 }
     {
-        level(self.registers, i) == 0
+        self.registers.level(i) == 0
     }
 
     // Within another, over any number of slots that both keep to.
@@ -110,8 +110,8 @@ impl WordEnv {
             → result ≡ within n m (view_env self) (view_env other) }
     {
         covers_status(self.status, other.status)
-            && levels_within(self.registers, other.registers)
-            && levels_within(self.arrays, other.arrays)
+            && self.registers.within(other.registers)
+            && self.arrays.within(other.arrays)
     }
 
     // The larger level slot by slot; equal statuses stay, others become unknown.
@@ -120,8 +120,8 @@ impl WordEnv {
         ensures { view_env result ≡ join (view_env self) (view_env other) }
     {
         let status = join_status(self.status, other.status);
-        let registers = join_levels(self.registers, other.registers);
-        let arrays = join_levels(self.arrays, other.arrays);
+        let registers = self.registers.join(other.registers);
+        let arrays = self.arrays.join(other.arrays);
         env_from(status, registers, arrays)
     }
 

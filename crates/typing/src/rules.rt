@@ -12,19 +12,19 @@ ghost use Rattle.typing.specs.Envs.{view_env, Small};
 
 use crate::WordEnv;
 use crate::environments::{env_from, killed};
-use levels::{join_levels, larger, level, settle_levels, settled, transients, with_level};
+use levels::{Levels, settled};
 use model::{Fault, Simple, Sizes, Status};
 
 // The levels of so many arrays beside one into which level l is stored: what was public becomes transient, unless l
 // is public.
-fn beside_levels(arrays: u32, count: u8, l: u8) -> u32
-    requires { NoThree (slot arrays) × (count ≤ 16) }
-    ensures { slot result ≡ (λ b. beside count l b (slot arrays b)) }
+fn beside_levels(arrays: Levels, count: u8, l: u8) -> Levels
+    requires { NoThree (slot arrays.0) × (count ≤ 16) }
+    ensures { slot result.0 ≡ (λ b. beside count l b (slot arrays.0 b)) }
 {
     if l == 0 {
         return arrays;
     }
-    join_levels(arrays, transients(count))
+    arrays.join(Levels::transients(count))
 }
 
 // Where register i, an index, is not public.
@@ -66,7 +66,7 @@ fn written_env(e: WordEnv, d: u8, l: u8) -> WordEnv
     requires { (d < 16) × (l < 4) }
     ensures { view_env result ≡ written (view_env e) d l }
 {
-    let registers = with_level(e.registers, d, l);
+    let registers = e.registers.with(d, l);
     env_from(killed(d, e.status), registers, e.arrays)
 }
 
@@ -77,7 +77,7 @@ fn after_op(e: WordEnv, dest: u8, left: u8, right: u8) -> WordEnv
         (max ((view_env e).regs left) ((view_env e).regs right)) }
 {
     let a = e.registers;
-    written_env(e, dest, larger(level(a, left), level(a, right)))
+    written_env(e, dest, a.level(left).max(a.level(right)))
 }
 
 #[tactic(auto, using(model::proofs::theory::Words::slot_small))]
@@ -87,11 +87,7 @@ fn after_select(e: WordEnv, dest: u8, cond: u8, yes: u8, no: u8) -> WordEnv
         (max ((view_env e).regs cond) (max ((view_env e).regs yes) ((view_env e).regs no))) }
 {
     let a = e.registers;
-    written_env(
-        e,
-        dest,
-        larger(level(a, cond), larger(level(a, yes), level(a, no))),
-    )
+    written_env(e, dest, a.level(cond).max(a.level(yes)).max(a.level(no)))
 }
 
 // A stray read may find anything that is not public: never public.
@@ -100,7 +96,7 @@ fn after_load(e: WordEnv, dest: u8, array: u8) -> WordEnv
     requires { dest < 16 }
     ensures { view_env result ≡ written (view_env e) dest (max 1 ((view_env e).arrays array)) }
 {
-    written_env(e, dest, larger(1, level(e.arrays, array)))
+    written_env(e, dest, e.arrays.level(array).max(1))
 }
 
 // A fixed place is never left, not even while misspeculating: the array's own level.
@@ -109,17 +105,17 @@ fn after_load_fixed(e: WordEnv, dest: u8, array: u8) -> WordEnv
     requires { dest < 16 }
     ensures { view_env result ≡ written (view_env e) dest ((view_env e).arrays array) }
 {
-    written_env(e, dest, level(e.arrays, array))
+    written_env(e, dest, e.arrays.level(array))
 }
 
 // The named array raised to the source's level, beside the others at the levels given.
 #[tactic(auto, using(crate::proofs::Packed::put_slot, model::proofs::theory::Words::slot_small))]
-fn raised_env(e: WordEnv, others: u32, array: u8, source: u8) -> WordEnv
+fn raised_env(e: WordEnv, others: Levels, array: u8, source: u8) -> WordEnv
     requires { array < 16 }
-    ensures { view_env result ≡ raised (view_env e) (slot others) array ((view_env e).regs source) }
+    ensures { view_env result ≡ raised (view_env e) (slot others.0) array ((view_env e).regs source) }
 {
-    let named = larger(level(e.arrays, array), level(e.registers, source));
-    let arrays = with_level(others, array, named);
+    let named = e.arrays.level(array).max(e.registers.level(source));
+    let arrays = others.with(array, named);
     env_from(e.status, e.registers, arrays)
 }
 
@@ -128,7 +124,7 @@ fn after_store(z: Sizes, e: WordEnv, array: u8, source: u8) -> WordEnv
     requires { Small z × (array < 16) × NoThrees (view_env e) }
     ensures { view_env result ≡ stored z.arrays (view_env e) array source }
 {
-    let l = level(e.registers, source);
+    let l = e.registers.level(source);
     let others = beside_levels(e.arrays, z.arrays, l);
     raised_env(e, others, array, source)
 }
@@ -145,8 +141,8 @@ fn after_init(e: WordEnv) -> WordEnv
     requires { NoThrees (view_env e) }
     ensures { view_env result ≡ fenced (view_env e) }
 {
-    let registers = settle_levels(e.registers);
-    let arrays = settle_levels(e.arrays);
+    let registers = e.registers.settled();
+    let arrays = e.arrays.settled();
     env_from(Status::Updated, registers, arrays)
 }
 
@@ -161,7 +157,7 @@ fn after_protect(e: WordEnv, dest: u8, source: u8) -> WordEnv
     requires { dest < 16 }
     ensures { view_env result ≡ protected (view_env e) dest source }
 {
-    let registers = with_level(e.registers, dest, settled(level(e.registers, source)));
+    let registers = e.registers.with(dest, settled(e.registers.level(source)));
     env_from(Status::Updated, registers, e.arrays)
 }
 

@@ -4,7 +4,7 @@ use Prim.Native.Nat.{min}
 use mathlib.Core.Path.{◌≡◌}
 use Rattle.model.specs.theory.Words.{lows}
 use Rattle.levels.proofs.Shifts.{lows_shifted}
-use Rattle.levels.proofs.transients.Goals as goal
+use Rattle.levels.proofs.Levels.transients.Goals as goal
 
 pub returns-then-n-ge16 : goal.returns-then-n-ge16
 unfolding lows
