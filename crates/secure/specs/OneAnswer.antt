@@ -1,10 +1,11 @@
 -- Two permitted answers are equal: whatever two programs meet a contract, they answer alike, and leave every lent
 -- word alike. Each premise is that function's contract as it stands in the source, over the values of its arguments.
 -- Here are the library's three main functions. message::shown, whose answer is a lent part, has its own
--- (Rattle.message.specs.OneAnswer), and so has the exported run (Rattle.likunjavo.specs.Numbers). The contracts of
--- the other public functions (of format, head, layout, records, message::part_of, report::verdict_line, the exported
--- check and message) are equations between each part of the answer, or a lent slice afterwards, and a value that the
--- arguments fix: one_of is for each such part.
+-- (Rattle.message.specs.OneAnswer), and so have the exported run (Rattle.likunjavo.specs.Numbers), Fault::try_from
+-- (one_numbered, Rattle.model.proofs.Numbers) and WordEnv::from (one_env, Rattle.typing.specs.Slots). The contracts of
+-- the other public functions (of Fault and Stop, levels, format, head, layout, records, message::part_of, report, the
+-- exported check and message) are equations between each part of the answer, or a lent slice afterwards, and a value
+-- that the arguments fix: one_of is for each such part.
 use Rattle.std.specs.Prelude.{ℕ, ◌≡◌, List, Result}
 use Rattle.std.proofs.Common.{sym, ap, ◌∙◌}
 use Rattle.reading.specs.Reading.{read_at}

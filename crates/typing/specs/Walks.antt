@@ -1,10 +1,10 @@
 -- The typing walk over the bytes of a table: what the checker's functions compute.
-use Rattle.std.specs.Prelude.{ℕ, suc, ◌+◌, Bool, false, List, length, Result, Ok, Err}
+use Rattle.std.specs.Prelude.{ℕ, suc, Bool, List, length, Result, Ok, Err}
 use Rattle.model.specs.Tests.{pick}
-use Rattle.model.specs.Levels.{Env, join, within}
+use Rattle.model.specs.Levels.{Env, within}
 use Rattle.model.specs.Packing.{env_of}
-use Rattle.model.specs.Rules.{after, returned, guarded, typing}
-use Rattle.model.specs.Walk.{Walking, Onward, Closed, Halt, Ending, Reached, Failed, on_shut, if_with, while_with, type_block, type_instr, inside, type_function}
+use Rattle.model.specs.Rules.{after, returned, typing}
+use Rattle.model.specs.Walk.{Walking, Onward, Closed, Halt, Ending, Reached, Failed, if_with, while_with, type_block, type_instr, inside, type_function}
 use Rattle.model.specs.Decide.{meets, simple_fault, typing_tests}
 use Rattle.model.specs.Table.{Table}
 use Rattle.model.specs.declared.Sizes.{Sizes}
@@ -12,7 +12,7 @@ use Rattle.model.specs.declared.Packed.{Packed}
 use Rattle.model.specs.declared.Simple.{Simple}
 use Rattle.model.specs.declared.Walked.{Walked}
 use Rattle.model.specs.declared.Walked.TheVariants.{Next, Shut}
-use Rattle.model.specs.declared.Fault.TheVariants.{LoopNotKept, CallDoesNotFit}
+use Rattle.model.specs.declared.Fault.TheVariants.{CallDoesNotFit}
 use Rattle.model.specs.declared.Refusal.{Refusal}
 use Rattle.format.specs.Layout.{in_of, out_of, table_with}
 use Rattle.typing.specs.declared.Walk.{Walk}
@@ -36,14 +36,6 @@ view_end (Err e) = Failed e.fault e.place
 -- a simple record at `at`, with `next` after it
 abbrev pub simple_walk : Sizes → Simple → ℕ → ℕ → Env → Walking Env
 simple_walk z s at next E = pick (meets s E) (Onward next (after z.arrays s E)) (Halt (simple_fault s) at)
-
--- the end of an IF whose first block ended in E₁
-abbrev pub join_walk : Env → Ending Env → Walking Env
-join_walk E₁ w = on_shut Halt w λ n E₂. Onward (n + 1) (join E₁ E₂)
-
--- the end of the body of a WHILE with the loop environment L on r
-abbrev pub back_walk : Sizes → ℕ → Packed → Ending Env → Walking Env
-back_walk z r L w = on_shut Halt w λ e E₁. pick (within z.registers z.arrays E₁ (env_of L)) (Onward (e + 3) (guarded (env_of L) r false)) (Halt LoopNotKept e)
 
 module _ (z : Sizes) (t : List ℕ) where
   -- a CALL of f at `at`, with `next` after it
