@@ -53,6 +53,9 @@ module _ (t : Table) (s : State) (dir : Directive) (a : Lent) where
         λ i. record { regs = (dat i).regs; mem = (dat i).mem; obs = obs i; seen = end i },
       )
 
+  both_halted : (j k : Stop) (u v : State) (b d : Lent) → ActHalts t s dir a j u b → ActHalts t s dir a k v d → (j ≡ k) × (u ≡ v) × (b ≡ d)
+  both_halted j k u v b d m n = (ap stop_in (sym (m.stopped any) ∙ n.stopped any), m.stays ∙ sym n.stays, sym m.kept ∙ n.kept)
+
   -- a step that is made is not one that halts
   not_both : (u v : State) (k : Stop) (b d : Lent) → ActMoves t s dir a u b → ActHalts t s dir a k v d → ⊥
   not_both u v k b d m n =
@@ -68,5 +71,4 @@ module _ (t : Table) (s : State) (dir : Directive) (a : Lent) where
   one_step (Ok p) (Ok q) u v b d x y = let e = both_moved u v b d x y in (refl, e.0, e.1)
   one_step (Ok p) (Err k) u v b d x y = absurd (not_both u v k b d x y)
   one_step (Err j) (Ok q) u v b d x y = absurd (not_both v u j d b y x)
-  one_step (Err j) (Err k) u v b d x y =
-      (ap Err (ap stop_in (sym (x.stopped any) ∙ y.stopped any)), x.stays ∙ sym y.stays, sym x.kept ∙ y.kept)
+  one_step (Err j) (Err k) u v b d x y = let e = both_halted j k u v b d x y in (ap Err e.0, e.1, e.2)
