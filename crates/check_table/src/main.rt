@@ -7,12 +7,12 @@
 
 ghost use Rattle.std.specs.Prelude.{◌≤◌, length, IfOk};
 
-use model::Fault;
+use model::{Fault, Refusal};
 use std::io::{Read, Stdin};
 
-// How many bytes came: all of the input, or as much as there is room for. Err: how many came before a read failed.
+// How many bytes came: all of the input, or as much as there is room for. A read that failed is a refusal.
 // (The library's `read_exact` does not say how many.)
-fn read_input(mut stdin: Stdin, space: &mut [u8]) -> Result<usize, usize>
+fn read_input(mut stdin: Stdin, space: &mut [u8]) -> Result<usize, Refusal>
     ensures { IfOk result (λ n. n ≤ length space.new) }
 {
     let mut n = 0;
@@ -20,7 +20,7 @@ fn read_input(mut stdin: Stdin, space: &mut [u8]) -> Result<usize, usize>
         match stdin.read(&mut space[n..]) {
             Ok(0) => break,
             Ok(more) => n += more,
-            Err(_) => return Err(n),
+            Err(_) => return Err(Fault::TableCut.at(n)),
         }
     }
     Ok(n)
@@ -30,7 +30,7 @@ fn main(rt: HostRuntime) {
     let mut table = [0u8; 32769];
     let verdict = match read_input(rt.stdin(), &mut table) {
         Ok(n) => typing::check(&table[..n]),
-        Err(n) => Err(Fault::TableCut.at(n)),
+        Err(refusal) => Err(refusal),
     };
     let mut line = [0u8; 80];
     let n = report::verdict_line(verdict, &mut line);

@@ -2,7 +2,7 @@
 //
 // Here: the numbers that records are made of, wherever they stand; bytes past the table's end count as 0. The crates
 // `head` (the records before the code, read), `layout` (what they say, read off once more) and `records` (one record
-// of code) are over these. The definitions of all four stand in specs/.
+// of code) are over these. The definitions of a table's bytes stand in specs/, for all four.
 #![tactic(auto)]
 
 ghost use Rattle.std.specs.Prelude.{◌≡◌, ◌+◌, ◌<◌};
@@ -18,14 +18,21 @@ pub fn byte_at(t: &[u8], p: usize) -> u8
     t.get(p).copied().unwrap_or(0)
 }
 
-// Two bytes, low byte first, as a place. Past the end they are 0.
+// Two bytes, low byte first. Past the end they are 0.
+fn half_at(t: &[u8], p: usize) -> u16
+    ensures { result ≡ word16 t.now p }
+{
+    if p < t.len() {
+        return u16::from_le_bytes([t[p], byte_at(t, p + 1)]);
+    }
+    0
+}
+
+// Two bytes, as a place.
 pub fn place_at(t: &[u8], p: usize) -> usize
     ensures { (result ≡ word16 t.now p) × (result < 65536) }
 {
-    if p < t.len() {
-        return usize::from(u16::from_le_bytes([t[p], byte_at(t, p + 1)]));
-    }
-    0
+    usize::from(half_at(t, p))
 }
 
 // Four bytes, low byte first.
@@ -58,7 +65,7 @@ pub fn packed_at(t: &[u8], p: usize) -> Packed
         return Packed {
             status: t[p],
             registers: four(t, p + 1),
-            arrays: place_at(t, p + 5) as u32,
+            arrays: u32::from(half_at(t, p + 5)),
         };
     }
     Packed {

@@ -18,7 +18,7 @@ pub extern "C" fn likunjavo_check(table: &[u8], answer: &mut [u64; 3])
 {
     *answer = match typing::check(table) {
         Ok(whole) => [0, 0, u64::from(whole.functions)],
-        Err(refusal) => [u64::from(refusal.fault.number()), refusal.place as u64, 0],
+        Err(refusal) => [u64::from(u8::from(refusal.fault)), refusal.place as u64, 0],
     };
 }
 
@@ -56,14 +56,14 @@ pub extern "C" fn likunjavo_run(
 {
     *answer = match machine::run(table, registers, memory, list, observations) {
         Ok(end) => [
-            u64::from(end.stop.number()),
+            u64::from(u8::from(end.stop)),
             end.place as u64,
             end.steps as u64,
             u64::from(end.mis),
             u64::from(end.masked),
         ],
         Err(refusal) => [
-            u64::from(refusal.fault.number()),
+            u64::from(u8::from(refusal.fault)),
             refusal.place as u64,
             0,
             0,

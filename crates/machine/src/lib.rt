@@ -92,7 +92,7 @@ pub(crate) struct Machine<'a> {
 }
 
 // How a run ended: why, the place it stands at, the steps taken, misspeculating, the flag.
-#[derive(Clone, Copy)]
+#[derive(Clone, Copy, Debug, PartialEq, Eq)]
 pub struct End {
     pub stop: Stop,
     pub place: usize,

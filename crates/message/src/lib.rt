@@ -8,7 +8,7 @@ ghost use Rattle.message.specs.Shown.{kind_length, directive_length, table_count
 use model::Fault;
 
 // A part of the table or of the directive list: where it begins, and how many bytes it has.
-#[derive(Clone, Copy)]
+#[derive(Clone, Copy, Debug, PartialEq, Eq)]
 pub enum Part {
     Table(usize, usize),
     List(usize, usize),

@@ -1,8 +1,9 @@
-// The words of document 01 that every crate shares: statuses, packed environments, records.
+// The words of document 01 that every crate shares: faults and stops, statuses, packed environments, records.
 // What they mean stands in specs/, in 01's order; the theorems over them in proofs/, and beside short definitions.
 #![tactic(auto)]
 
 ghost use Rattle.std.specs.Prelude.{◌≡◌};
+ghost use Rattle.model.specs.Packing.{status_of};
 ghost use Rattle.model.specs.Numbers.{fault_number, stop_number, refusal, Numbered};
 
 // What is at fault, in 01's order. As numbers: 1 to 16.
@@ -33,11 +34,14 @@ impl Fault {
     {
         Refusal { fault: self, place }
     }
+}
 
-    pub fn number(self) -> u8
-        ensures { result ≡ fault_number self }
+// A fault's number.
+impl From<Fault> for u8 {
+    fn from(fault: Fault) -> u8
+        ensures { result ≡ fault_number fault }
     {
-        self as u8
+        fault as u8
     }
 }
 
@@ -92,11 +96,12 @@ pub enum Stop {
     NoRoom = 26,
 }
 
-impl Stop {
-    pub fn number(self) -> u8
-        ensures { result ≡ stop_number self }
+// A stop's number.
+impl From<Stop> for u8 {
+    fn from(stop: Stop) -> u8
+        ensures { result ≡ stop_number stop }
     {
-        self as u8
+        stop as u8
     }
 }
 
@@ -114,6 +119,18 @@ pub enum Status {
     Unknown,
     Updated,
     Outdated(u8, bool),
+}
+
+// A status byte as it stands in a table: 1 is updated.
+impl From<u8> for Status {
+    fn from(byte: u8) -> Status
+        ensures { result ≡ status_of byte }
+    {
+        match byte {
+            1 => Status::Updated,
+            _ => Status::Unknown,
+        }
+    }
 }
 
 // An environment as it stands in a table: status byte, two bits a register, two bits an array.

@@ -16,17 +16,11 @@ use typing::{Accepted, Verdict};
 pub fn verdict_line(v: Verdict, out: &mut [u8]) -> usize
     ensures { (result ≡ length (line_of v)) × (result ≤ 80) × (out.new ≡ sets out.old 0 (line_of v)) }
 {
-    match v {
-        Ok(whole) => accepted_line(whole, out),
-        Err(refusal) => refusal_line(refusal.fault.number(), refusal.place, out),
-    }
-}
-
-fn accepted_line(whole: Accepted, out: &mut [u8]) -> usize
-    ensures { (result ≡ length (line_of (Ok whole))) × (result ≤ 80) × (out.new ≡ sets out.old 0 (line_of (Ok whole))) }
-{
     let mut line = Line::new(out);
-    accepted(&mut line, whole);
+    match v {
+        Ok(whole) => accepted(&mut line, whole),
+        Err(refusal) => refused(&mut line, u8::from(refusal.fault), refusal.place),
+    }
     line.length()
 }
 

@@ -49,13 +49,13 @@ fn ending(rt: &impl Print, o: Outcome) -> io::Result<()> {
     match o {
         Ok(end) => println!(rt;
             "stop {} at {} after {} steps, misspeculating {}, masked {}",
-            end.stop.number(),
+            u8::from(end.stop),
             end.place,
             end.steps,
             u8::from(end.mis),
             u8::from(end.masked)
         ),
-        Err(refusal) => println!(rt; "refused {} at {}", refusal.fault.number(), refusal.place),
+        Err(refusal) => println!(rt; "refused {} at {}", u8::from(refusal.fault), refusal.place),
     }
 }
 

@@ -2,7 +2,8 @@
 use Prim.Native.Nat.{ℕ, zero, suc, ◌+◌, ◌-◌, ◌*◌, ◌<◌, ◌≤◌, max}
 use native.Mathlib.Omega.{arith}
 use native.Mathlib.Numerals.{sub-one}
-use Rattle.std.specs.Prelude.{Result, Ok, Err}
+use Rattle.std.specs.Prelude.{◌⊎◌, Result, Ok, Err}
+use Rattle.std.proofs.Common.{inl, inr}
 use Rattle.std.specs.Result.{IsErrAnd, result_unwrap_or}
 use Rattle.std.proofs.lemmas.Result.{err_from_is_err_and}
 use mathlib.Core.Path.{◌≡◌, refl, sym, ap, subst, ◌∙◌}
@@ -26,9 +27,8 @@ use Rattle.model.specs.declared.Fault.TheVariants.{LoopNotKept, ReturnDoesNotFit
 use Rattle.model.specs.declared.Refusal.{Refusal}
 use Rattle.model.specs.declared.Sizes.{Sizes}
 use Rattle.model.specs.declared.Packed.{Packed}
-use Rattle.model.specs.declared.Simple.{Simple}
 use Rattle.model.specs.declared.Record.{Record}
-use Rattle.model.specs.declared.Record.TheVariants.{Do, Call, If, Else, Endif, While, Endwhile, Return}
+use Rattle.model.specs.declared.Record.TheVariants.{Else, Endif, Endwhile, Return}
 use Rattle.format.specs.Format.{Decoded, decode_at}
 use Rattle.format.specs.Laws.{good}
 use Rattle.format.specs.Layout.{record_from, record_of, in_of, out_of, start_of}
@@ -53,15 +53,11 @@ within_packed z E L f g k w q =
     ∙ sym (w z.registers z.arrays f (subst (Fit z) (sym k) g)) ∙ q
 
 -- a record that is none of the four that go on
-pub closes : (i : Record) → ((s : Simple) → i ≡ Do s → ⊥) → ((f : ℕ) (m : Bool) → i ≡ Call f m → ⊥) → ((q e : ℕ) → i ≡ If q e → ⊥) → ((q e : ℕ) (L : Packed) → i ≡ While q e L → ⊥) → Closes i
-closes (Do s) a b c d = a s refl
-closes (Call f m) a b c d = b f m refl
-closes (If q e) a b c d = c q e refl
-closes (Else e) a b c d = tt
-closes Endif a b c d = tt
-closes (While q e L) a b c d = d q e L refl
-closes (Endwhile e) a b c d = tt
-closes Return a b c d = tt
+pub closes : (i : Record) → ((n : ℕ) × (i ≡ Else n)) ⊎ ((i ≡ Endif) ⊎ (((w : ℕ) × (i ≡ Endwhile w)) ⊎ (i ≡ Return))) → Closes i
+closes i (inl (n, e)) = subst Closes (sym e) tt
+closes i (inr (inl e)) = subst Closes (sym e) tt
+closes i (inr (inr (inl (w, e)))) = subst Closes (sym e) tt
+closes i (inr (inr (inr e))) = subst Closes (sym e) tt
 
 module _ (r : ReadTable) where
   abbrev z : Sizes

@@ -1,7 +1,7 @@
 // Environments: within, join, and what a block's entry, a call and a packed environment make of them.
 ghost use Rattle.std.specs.Prelude.{◌≡◌, ℕ, eqb};
 ghost use Rattle.model.specs.Levels.{join_status, covers, join, within};
-ghost use Rattle.model.specs.Packing.{status_of, env_of};
+ghost use Rattle.model.specs.Packing.{env_of};
 ghost use Rattle.model.specs.Rules.{kill, guard_status, call_status, guarded, returned};
 ghost use Rattle.model.specs.theory.Whole.{Whole, NoThrees};
 ghost use Rattle.typing.specs.Envs.{env_from, view_env};
@@ -66,15 +66,6 @@ fn call_status(mark: bool, a: Status) -> Status
     }
 }
 
-fn status_of(b: u8) -> Status
-    ensures { result ≡ status_of b }
-{
-    match b {
-        1 => Status::Updated,
-        _ => Status::Unknown,
-    }
-}
-
 // Makes an environment of a status and the packed levels of registers and arrays. No other function writes a
 // `WordEnv` down.
 pub(crate) fn env_from(status: Status, registers: Levels, arrays: Levels) -> WordEnv
@@ -92,7 +83,11 @@ impl From<Packed> for WordEnv {
     fn from(p: Packed) -> WordEnv
         ensures { view_env result ≡ env_of p }
     {
-        env_from(status_of(p.status), Levels(p.registers), Levels(p.arrays))
+        env_from(
+            Status::from(p.status),
+            Levels(p.registers),
+            Levels(p.arrays),
+        )
     }
 }
 

@@ -56,7 +56,12 @@ pub(crate) fn fault_of(s: Simple, e: WordEnv) -> Option<Fault>
         Simple::Load { index, .. } | Simple::Store { index, .. } => index_fault(e, index),
         Simple::Update { register, sense } => status_fault(e, Status::Outdated(register, sense)),
         Simple::Protect { .. } => status_fault(e, Status::Updated),
-        _ => None,
+        Simple::Const { .. }
+        | Simple::Op { .. }
+        | Simple::Select { .. }
+        | Simple::Init
+        | Simple::LoadFixed { .. }
+        | Simple::StoreFixed { .. } => None,
     }
 }
 

@@ -132,10 +132,12 @@ impl ReadTable<'_> {
             Record::Call { function, mark } => self.call(function, mark, at, next, e),
             Record::If { register, .. } => self.branch(at, register, depth, e),
             Record::While { register, env, .. } => self.repeat(at, register, env, depth, e),
-            _ => Ok(Walk {
-                to: Walked::Shut(at),
-                env: e,
-            }),
+            Record::Else { .. } | Record::Endif | Record::Endwhile { .. } | Record::Return => Ok(
+                Walk {
+                    to: Walked::Shut(at),
+                    env: e,
+                },
+            ),
         }
     }
 

@@ -183,9 +183,8 @@ one-returns-in-While m c =
     let a = c.args in
     c.repeat.ensures ∙ record_is a.self.now a.depth a.at (view_env a.e) (kind_at a.self.now a.at c.decode.ensures c.unwrap_or-record.ensures c.in-While.is)
 
-pub one-returns-in_default : goal.one-returns-in_default
-one-returns-in_default m c =
+pub one-returns-in-Else : goal.one-returns-in-Else
+one-returns-in-Else m c =
     let a = c.args in
-    let d = c.in_default in
     let i = kind_at a.self.now a.at c.decode.ensures c.unwrap_or-record.ensures refl in
-    closed_at a.self.now a.depth a.at (view_env a.e) (subst Closes (sym i) (closes c.unwrap_or-record.result.0 d.not-Do d.not-Call d.not-If d.not-While))
+    closed_at a.self.now a.depth a.at (view_env a.e) (subst Closes (sym i) (closes c.unwrap_or-record.result.0 c.in-Else.is))
