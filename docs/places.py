@@ -184,7 +184,7 @@ def p7():
     for g in FN:
         for m in re.finditer(r'\bmatch ([^{]*)\{', g.body):
             inner = g.body[m.end():close(g.body, m.end() - 1)]
-            arms = re.findall(r'=> (?:\{\s*)?(?:return )?([a-z]\w*(?:::\w+)*)\(', inner)
+            arms = re.findall(r'=> (?:\{\s*)?(?:return )?((?:self\.)?[a-z]\w*(?:::\w+)*)\(', inner)
             if len(set(arms)) >= 2 and len(arms) >= 3:
                 what = '%s: match %s: %s' % (g.name, m[1].strip(), ' '.join(dict.fromkeys(arms)))
                 row('a match that picks a function', g.file, lineof(g, m), what)
