@@ -27,7 +27,7 @@ use Rattle.machine.specs.Directives.{branch_at, stray_at, back_at, directive_at,
 use Rattle.machine.specs.Runs.{ran, total, run_at}
 use Rattle.machine.specs.declared.End.{End}
 use Rattle.report.specs.Text.{digits_in}
-use Rattle.report.specs.Lines.{line_of}
+use Rattle.report.specs.Lines.{told, line_of}
 
 -- 01 02 01 01 / 02 04 00 / 03 18 00, seven 00, 00 0A 00 00 00 00 00
 abbrev head : List ℕ
@@ -63,7 +63,7 @@ Forks (Stopped k) seen mis = ⊥
 Forks (Went c x o) seen mis = (bytes_of o ≡ seen) × (c.mis ≡ mis)
 
 abbrev pub Right : Case → Type 0
-Right (writes t out) = line_of (check_at t) ≡ out
+Right (writes t out) = line_of (told (check_at t)) ≡ out
 Right (refuses t f n p) = (check_at t ≡ Err (refusal f p)) × (fault_number f ≡ n)
 Right (protects s d) = (meets (Protect 0 1) (env Updated s 0 0) ≡ true) × ((after 2 (Protect 0 1) (env Updated s 0 0)).regs 0 ≡ d)
 Right (stores s a b a' b') = ((after 2 (Store 0 0 1) (env Unknown s a b)).arrays 0 ≡ a') × ((after 2 (Store 0 0 1) (env Unknown s a b)).arrays 1 ≡ b')

@@ -1,6 +1,7 @@
 -- Document 01: the check program's one line, "accepted F functions B bytes" or "refused N at P".
-use Rattle.std.specs.Prelude.{ℕ, List, [], ◌∷◌, ◌++◌, Ok, Err}
+use Rattle.std.specs.Prelude.{ℕ, List, [], ◌∷◌, ◌++◌, Result, Ok, Err}
 use Rattle.model.specs.Numbers.{fault_number}
+use Rattle.typing.specs.declared.Accepted.{Accepted}
 use Rattle.typing.specs.Check.{Verdict}
 use Rattle.report.specs.Text.{decimal}
 
@@ -23,9 +24,14 @@ at = 32 ∷ 97 ∷ 116 ∷ 32 ∷ []
 abbrev pub end : List ℕ
 end = 10 ∷ []
 
-abbrev pub refused_line : ℕ → ℕ → List ℕ
-refused_line n p = refused ++ (decimal n ++ (at ++ (decimal p ++ end)))
+-- a verdict as its line says it: the fault by its number
+abbrev pub Told : Type 0
+Told = Result Accepted (ℕ × ℕ)
 
-abbrev pub line_of : Verdict → List ℕ
+abbrev pub told : Verdict → Told
+told (Ok a) = Ok a
+told (Err e) = Err (fault_number e.fault, e.place)
+
+abbrev pub line_of : Told → List ℕ
 line_of (Ok a) = accepted ++ (decimal a.functions ++ (functions ++ (decimal a.bytes ++ bytes)))
-line_of (Err e) = refused_line (fault_number e.fault) e.place
+line_of (Err (n, p)) = refused ++ (decimal n ++ (at ++ (decimal p ++ end)))

@@ -4,32 +4,23 @@
 ghost use Rattle.std.specs.Prelude.{◌≡◌, ◌+◌, ◌≤◌, length, Ok, Err};
 ghost use Rattle.std.proofs.lemmas.List.Edits.{sets};
 ghost use Rattle.report.specs.Added.{Adds};
-ghost use Rattle.report.specs.Lines.{line_of, refused_line};
+ghost use Rattle.report.specs.Lines.{line_of};
 
 mod text;
 
 use text::Line;
-use typing::{Accepted, Verdict};
+use typing::Accepted;
 
 // The check program's line, at the start of a lent buffer; how long it is. Of a buffer that is too short the line's
-// beginning is in it.
-pub fn verdict_line(v: Verdict, out: &mut [u8]) -> usize
+// beginning is in it. A refusal is its number and its place; the number may be any.
+pub fn verdict_line(v: Result<Accepted, (u8, usize)>, out: &mut [u8]) -> usize
     ensures { (result ≡ length (line_of v)) × (result ≤ 80) × (out.new ≡ sets out.old 0 (line_of v)) }
 {
     let mut line = Line::new(out);
     match v {
         Ok(whole) => accepted(&mut line, whole),
-        Err(refusal) => refused(&mut line, u8::from(refusal.fault), refusal.place),
+        Err((number, place)) => refused(&mut line, number, place),
     }
-    line.length()
-}
-
-// The line of a refusal with any number, at the start of a lent buffer; how long it is.
-pub fn refusal_line(number: u8, place: usize, out: &mut [u8]) -> usize
-    ensures { (result ≡ length (refused_line number place)) × (result ≤ 80) × (out.new ≡ sets out.old 0 (refused_line number place)) }
-{
-    let mut line = Line::new(out);
-    refused(&mut line, number, place);
     line.length()
 }
 
@@ -47,7 +38,7 @@ fn accepted(line: &mut Line, whole: Accepted)
 
 fn refused(line: &mut Line, number: u8, place: usize)
     requires { line.old.length ≤ 20 }
-    ensures adds { Adds line.old (refused_line number place) line.new }
+    ensures adds { Adds line.old (line_of (Err (number, place))) line.new }
     ensures short { line.new.length ≤ line.old.length + 80 }
 {
     line.text(b"refused ");
