@@ -1,4 +1,4 @@
-# Counts the places of issue 31 (docs/DESIGN-PASS.md) in crates/*/src, and of point 8 in proofs/ too, by their form and
+# Counts the places of docs/DESIGN-PASS.md in crates/*/src, and of point 8 in proofs/ too, by their form and
 # not by a list of names.
 # At the top of a checkout: python3 docs/places.py POINT. It prints a place a line, and their number.
 import collections, difflib, glob, itertools, re, sys
