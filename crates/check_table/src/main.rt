@@ -29,8 +29,7 @@ fn read_input(mut stdin: Stdin, space: &mut [u8]) -> Result<usize, Refusal>
 fn main(rt: HostRuntime) {
     let mut table = [0u8; 32769];
     let verdict = read_input(rt.stdin(), &mut table).and_then(|n| typing::check(&table[..n]));
-    let told = verdict.map_err(|refusal| (u8::from(refusal.fault), refusal.place));
     let mut line = [0u8; 80];
-    let n = report::verdict_line(told, &mut line);
+    let n = report::check_line(verdict, &mut line);
     io::write_all(1, &line[..n]);
 }

@@ -57,9 +57,8 @@ const EXAMPLES: [&[u8]; 15] = [
 ];
 
 fn show(table: &[u8]) {
-    let told = typing::check(table).map_err(|refusal| (u8::from(refusal.fault), refusal.place));
     let mut line = [0u8; 80];
-    let n = report::verdict_line(told, &mut line);
+    let n = report::check_line(typing::check(table), &mut line);
     io::write_all(1, &line[..n]);
 }
 

@@ -4,15 +4,26 @@
 ghost use Rattle.std.specs.Prelude.{◌≡◌, ◌+◌, ◌≤◌, length, Ok, Err};
 ghost use Rattle.std.proofs.lemmas.List.Edits.{sets};
 ghost use Rattle.report.specs.Added.{Adds};
-ghost use Rattle.report.specs.Lines.{line_of};
+ghost use Rattle.report.specs.Lines.{line_of, told};
 
 mod text;
 
 use text::Line;
-use typing::Accepted;
+use typing::{Accepted, Verdict};
 
-// The check program's line, at the start of a lent buffer; how long it is. Of a buffer that is too short the line's
-// beginning is in it. A refusal is its number and its place; the number may be any.
+// The check program's line of a verdict, as verdict_line writes it.
+pub fn check_line(verdict: Verdict, out: &mut [u8]) -> usize
+    ensures { (result ≡ length (line_of (told verdict))) × (result ≤ 80)
+        × (out.new ≡ sets out.old 0 (line_of (told verdict))) }
+{
+    verdict_line(
+        verdict.map_err(|refusal| (u8::from(refusal.fault), refusal.place)),
+        out,
+    )
+}
+
+// The line at the start of a lent buffer; how long it is. Of a buffer that is too short the line's beginning is in it.
+// A refusal is its number and its place; the number may be any.
 pub fn verdict_line(v: Result<Accepted, (u8, usize)>, out: &mut [u8]) -> usize
     ensures { (result ≡ length (line_of v)) × (result ≤ 80) × (out.new ≡ sets out.old 0 (line_of v)) }
 {
