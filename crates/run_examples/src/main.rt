@@ -10,7 +10,6 @@ mod case;
 mod show;
 
 use case::Case;
-use std::io::Result;
 
 // The words of a part, low byte first, at the start of the space. None where the part has more words than there is
 // space for, or half a word.
@@ -27,42 +26,40 @@ fn words<'a>(part: &[u8], space: &'a mut [u32]) -> Option<&'a mut [u32]> {
 }
 
 // False where a case has more than there is space for here, or half a word.
-fn run(rt: &impl Print, case: &Case) -> Result<bool> {
+fn run(rt: &impl Print, case: &Case) -> bool {
     let mut registers = [0; 16];
     let mut memory = [0; 512];
     let mut observations = [255; 64];
-    show::name(rt, case.name)?;
+    show::name(rt, case.name);
     let (Some(registers), Some(memory), Some(observations)) = (
         words(case.registers, &mut registers),
         words(case.memory, &mut memory),
         observations.get_mut(..usize::from(case.room)),
     ) else {
-        return Ok(false);
+        return false;
     };
-    show::run(rt, case.table, case.list, registers, memory, observations)?;
-    Ok(true)
+    show::run(rt, case.table, case.list, registers, memory, observations);
+    true
 }
 
-fn cases(rt: &impl Print, mut s: &[u8]) -> Result<()> {
+fn cases(rt: &impl Print, mut s: &[u8]) {
     while !s.is_empty() {
         let Some((case, rest)) = Case::first(s) else {
             return show::no_case(rt);
         };
-        if !run(rt, &case)? {
+        if !run(rt, &case) {
             return show::no_case(rt);
         }
         s = rest;
     }
-    Ok(())
 }
 
 fn main(rt: HostRuntime) {
     let mut input = [0; 262144];
     let n = io::read_full(0, &mut input);
-    // A write that fails ends the program, and is no error of it.
-    let _ = if n < input.len() {
-        cases(&rt, &input[..n])
+    if n < input.len() {
+        cases(&rt, &input[..n]);
     } else {
-        show::no_case(&rt)
-    };
+        show::no_case(&rt);
+    }
 }
