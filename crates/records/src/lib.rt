@@ -2,12 +2,12 @@
 // Fields::record.
 #![tactic(auto)]
 
-ghost use Rattle.std.specs.Prelude.{◌≡◌, ◌+◌, ◌<◌, length, IfSome, IfNone};
+ghost use Rattle.std.specs.Prelude.{◌≡◌, ◌+◌, ◌<◌, ◌≤◌, length, IfSome, IfNone};
 ghost use Rattle.format.specs.Format.{word16, code_length, decode_at};
 ghost use Rattle.format.specs.Layout.{record_of, next_of};
 ghost use Rattle.records.specs.Kinds.{kind_byte, byte_below, bit_at, operation_at, index_at, fields_of};
 
-use format::{byte_at, packed_at, packed_in, place_at, word_at};
+use format::{packed_at, packed_in, place_at, word_at};
 use layout::Table;
 use model::{Fault, Operation, Record, Refusal, Simple};
 
@@ -155,7 +155,9 @@ struct Fields<'a> {
 #[tactic(auto, unfolding(crate::specs::Kinds::fields_of))]
 impl Fields<'_> {
     // The record, which is of this kind.
+    #[tactic(auto, unfolding(crate::specs::Kinds::fields_of, format::specs::Format::code_length))]
     fn record(&self, kind: Kind) -> Result<Record, Refusal>
+        requires { self.now.at + code_length (kind_byte kind) ≤ length self.now.table.bytes.now }
         ensures { result ≡ fields_of (kind_byte kind) self.now.table.sizes self.now.table.bytes.now self.now.at }
     {
         match kind {
@@ -180,6 +182,7 @@ impl Fields<'_> {
     }
 
     fn read_const(&self) -> Result<Record, Refusal>
+        requires { self.now.at + 6 ≤ length self.now.table.bytes.now }
         ensures { result ≡ fields_of 0x10 self.now.table.sizes self.now.table.bytes.now self.now.at }
     {
         Ok(Record::Do(Simple::Const {
@@ -189,6 +192,7 @@ impl Fields<'_> {
     }
 
     fn read_op(&self) -> Result<Record, Refusal>
+        requires { self.now.at + 5 ≤ length self.now.table.bytes.now }
         ensures { result ≡ fields_of 0x11 self.now.table.sizes self.now.table.bytes.now self.now.at }
     {
         Ok(Record::Do(Simple::Op {
@@ -200,6 +204,7 @@ impl Fields<'_> {
     }
 
     fn read_select(&self) -> Result<Record, Refusal>
+        requires { self.now.at + 5 ≤ length self.now.table.bytes.now }
         ensures { result ≡ fields_of 0x12 self.now.table.sizes self.now.table.bytes.now self.now.at }
     {
         Ok(Record::Do(Simple::Select {
@@ -211,6 +216,7 @@ impl Fields<'_> {
     }
 
     fn read_load(&self) -> Result<Record, Refusal>
+        requires { self.now.at + 4 ≤ length self.now.table.bytes.now }
         ensures { result ≡ fields_of 0x13 self.now.table.sizes self.now.table.bytes.now self.now.at }
     {
         Ok(Record::Do(Simple::Load {
@@ -221,6 +227,7 @@ impl Fields<'_> {
     }
 
     fn read_store(&self) -> Result<Record, Refusal>
+        requires { self.now.at + 4 ≤ length self.now.table.bytes.now }
         ensures { result ≡ fields_of 0x14 self.now.table.sizes self.now.table.bytes.now self.now.at }
     {
         Ok(Record::Do(Simple::Store {
@@ -231,6 +238,7 @@ impl Fields<'_> {
     }
 
     fn read_update(&self) -> Result<Record, Refusal>
+        requires { self.now.at + 3 ≤ length self.now.table.bytes.now }
         ensures { result ≡ fields_of 0x16 self.now.table.sizes self.now.table.bytes.now self.now.at }
     {
         Ok(Record::Do(Simple::Update {
@@ -240,6 +248,7 @@ impl Fields<'_> {
     }
 
     fn read_protect(&self) -> Result<Record, Refusal>
+        requires { self.now.at + 3 ≤ length self.now.table.bytes.now }
         ensures { result ≡ fields_of 0x17 self.now.table.sizes self.now.table.bytes.now self.now.at }
     {
         Ok(Record::Do(Simple::Protect {
@@ -249,6 +258,7 @@ impl Fields<'_> {
     }
 
     fn read_call(&self) -> Result<Record, Refusal>
+        requires { self.now.at + 3 ≤ length self.now.table.bytes.now }
         ensures { result ≡ fields_of 0x18 self.now.table.sizes self.now.table.bytes.now self.now.at }
     {
         Ok(Record::Call {
@@ -258,6 +268,7 @@ impl Fields<'_> {
     }
 
     fn read_load_fixed(&self) -> Result<Record, Refusal>
+        requires { self.now.at + 5 ≤ length self.now.table.bytes.now }
         ensures { result ≡ fields_of 0x1B self.now.table.sizes self.now.table.bytes.now self.now.at }
     {
         let dest = self.register(1)?;
@@ -267,6 +278,7 @@ impl Fields<'_> {
     }
 
     fn read_store_fixed(&self) -> Result<Record, Refusal>
+        requires { self.now.at + 5 ≤ length self.now.table.bytes.now }
         ensures { result ≡ fields_of 0x1C self.now.table.sizes self.now.table.bytes.now self.now.at }
     {
         let array = self.array(1)?;
@@ -280,6 +292,7 @@ impl Fields<'_> {
     }
 
     fn read_if(&self) -> Result<Record, Refusal>
+        requires { self.now.at + 4 ≤ length self.now.table.bytes.now }
         ensures { result ≡ fields_of 0x20 self.now.table.sizes self.now.table.bytes.now self.now.at }
     {
         Ok(Record::If {
@@ -289,6 +302,7 @@ impl Fields<'_> {
     }
 
     fn read_while(&self) -> Result<Record, Refusal>
+        requires { self.now.at + 11 ≤ length self.now.table.bytes.now }
         ensures { result ≡ fields_of 0x23 self.now.table.sizes self.now.table.bytes.now self.now.at }
     {
         let register = self.register(1)?;
@@ -305,9 +319,10 @@ impl Fields<'_> {
 impl Fields<'_> {
     // A byte that must be below n.
     fn below(&self, i: u8, n: u8) -> Result<u8, Refusal>
+        requires { self.now.at + i < length self.now.table.bytes.now }
         ensures { result ≡ byte_below self.now.table.bytes.now self.now.at i n }
     {
-        let field = byte_at(self.table.bytes, self.at + usize::from(i));
+        let field = self.table.bytes[self.at + usize::from(i)];
         if n <= field {
             return Err(Fault::OutOfRange.at(self.at));
         }
@@ -315,24 +330,28 @@ impl Fields<'_> {
     }
 
     fn register(&self, i: u8) -> Result<u8, Refusal>
+        requires { self.now.at + i < length self.now.table.bytes.now }
         ensures { result ≡ byte_below self.now.table.bytes.now self.now.at i self.now.table.sizes.registers }
     {
         self.below(i, self.table.sizes.registers)
     }
 
     fn array(&self, i: u8) -> Result<u8, Refusal>
+        requires { self.now.at + i < length self.now.table.bytes.now }
         ensures { result ≡ byte_below self.now.table.bytes.now self.now.at i self.now.table.sizes.arrays }
     {
         self.below(i, self.table.sizes.arrays)
     }
 
     fn bit(&self, i: u8) -> Result<bool, Refusal>
+        requires { self.now.at + i < length self.now.table.bytes.now }
         ensures { result ≡ bit_at self.now.table.bytes.now self.now.at i }
     {
         Ok(self.below(i, 2)? == 1)
     }
 
     fn operation(&self, i: u8) -> Result<Operation, Refusal>
+        requires { self.now.at + i < length self.now.table.bytes.now }
         ensures { result ≡ operation_at self.now.table.bytes.now self.now.at i }
     {
         Ok(match self.below(i, 8)? {
