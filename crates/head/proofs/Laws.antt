@@ -1,12 +1,13 @@
 -- Laws of the head's definitions, as its readers use them.
-use Rattle.std.specs.Prelude.{ℕ, suc, ◌+◌, ◌-◌, ◌<◌, ◌≡◌, refl, List, [], Bool, true, false, length, leb, eqb, ltb, Result, Ok, Err}
-use Rattle.std.proofs.Common.{arith}
+use Rattle.std.specs.Prelude.{ℕ, zero, suc, ◌+◌, ◌-◌, ◌<◌, ◌≡◌, refl, List, [], Bool, true, false, length, leb, eqb, ltb, Result, Ok, Err}
+use Rattle.std.proofs.Common.{arith, sub-one, ◌∙◌}
 use Rattle.model.specs.Tests.{pick, all}
 use Rattle.model.specs.Numbers.{refusal, then}
 use Rattle.model.specs.declared.Fault.TheVariants.{TableCut, WrongKind, OutOfRange}
 use Rattle.model.specs.declared.Refusal.{Refusal}
+use Rattle.model.specs.declared.Sizes.{Sizes}
 use Rattle.format.specs.Format.{byte}
-use Rattle.format.specs.Head.{due_at, array_at, arrays_at}
+use Rattle.format.specs.Head.{due_at, array_at, signature_at, arrays_at, signatures_at}
 
 -- a record is due, and once it stands there whole, its fields are tested
 pub due_then : {A : Type 0} (k : ℕ) (t : List ℕ) (at n : ℕ) (tests : List Bool) (good : Result A Refusal)
@@ -26,7 +27,19 @@ due_then {A = A} k t at n tests good = go (leb (length t) at) (eqb (byte t at) k
     go false true true = refl
     go false true false = refl
 
--- one record read, one fewer left
-pub arrays_next : (t : List ℕ) (n k at p : ℕ) → k < n → array_at t at ≡ Ok p → arrays_at t (n - k) at ≡ arrays_at t (n - (k + 1)) p
+-- the records before the code, one less
+pub arrays_is : (t : List ℕ) (n at : ℕ) → (n ≡ 0 → ⊥) → arrays_at t n at ≡ then (array_at t at) (arrays_at t (n - 1))
 unfolding arrays_at
-arrays_next t n k at p h e = let m : n - k ≡ suc (n - (k + 1)) = omega arith in rw (m, e) refl
+arrays_is t zero at h = absurd (h refl)
+arrays_is t (suc n) at h = rw sub-one
+
+pub signatures_is : (z : Sizes) (t : List ℕ) (n at : ℕ) → (n ≡ 0 → ⊥) → signatures_at z t n at ≡ then (signature_at z t (n - 1) at) (signatures_at z t (n - 1))
+unfolding signatures_at
+signatures_is z t zero at h = absurd (h refl)
+signatures_is z t (suc n) at h = rw sub-one
+
+-- one array's record read, where k were read before
+pub arrays_next : (t : List ℕ) (n k at p : ℕ) → k < n → array_at t at ≡ Ok p → arrays_at t (n - k) at ≡ arrays_at t (n - (k + 1)) p
+arrays_next t n k at p h e =
+    let m : n - k - 1 ≡ n - (k + 1) = omega arith in
+    arrays_is t (n - k) at (λ q. omega arith) ∙ rw (e, m) refl

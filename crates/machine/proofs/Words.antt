@@ -17,15 +17,19 @@ use Rattle.machine.specs.Directives.{Told, branch_at, stray_at, back_at, directi
 use Rattle.machine.specs.Runs.{total}
 
 -- ---- THE ARRAYS' WORDS
-pub offset_none : (ws : List ℕ) → offset_in ws 0 ≡ 0
+pub offset_none : (z : Sizes) (t : List ℕ) (n b a : ℕ) → n ≡ 0 → offset_in (words_from z t n b) a ≡ 0
+unfolding offset_in words_from
+offset_none z t n b a e = rw e
+
+pub offset_first : (ws : List ℕ) → offset_in ws 0 ≡ 0
 unfolding offset_in
-offset_none [] = refl
-offset_none (w ∷ ws) = refl
+offset_first [] = refl
+offset_first (w ∷ ws) = refl
 
 offset_next : (ws : List ℕ) (a : ℕ) → a < length ws → offset_in ws (suc a) ≡ offset_in ws a + get_or ws a 0
 unfolding offset_in
 offset_next [] a l = absurd (omega arith)
-offset_next (w ∷ ws) zero l = rw (offset_none ws) (omega arith)
+offset_next (w ∷ ws) zero l = rw (offset_first ws) (omega arith)
 offset_next (w ∷ ws) (suc a) l = ap (λ (n : ℕ). w + n) (offset_next ws a (omega arith)) ∙ sym (add_assoc w (offset_in ws a) (get_or ws a 0))
 
 -- past the last array memory ends
@@ -54,7 +58,7 @@ module _ (z : Sizes) (t : List ℕ) where
           let h : b ≡ z.arrays = omega arith in
           rw (h, offset_all) (offset_end W a (rw words_count (omega arith)))
 
-pub ruleset offsets = (offset_none, offset_on, offset_past)
+pub ruleset offsets = (offset_first, offset_on, offset_past)
 
 -- past the arrays there are no words
 pub words_out : (z : Sizes) (t : List ℕ) (n b a : ℕ) → n ≤ a → get_or (words_from z t n b) a 0 ≡ 0

@@ -3,7 +3,7 @@
 use Prim.Native.Nat.{ℕ, zero, suc, ◌+◌, ◌-◌, ◌<◌, ◌≤◌}
 use native.Mathlib.Omega.{arith}
 use native.Mathlib.Numerals.{sub-one}
-use mathlib.Core.Path.{◌≡◌, refl, subst}
+use mathlib.Core.Path.{◌≡◌, refl, subst, ◌∙◌}
 use mathlib.Core.List.{List}
 use lib.ListN.{length}
 use Rattle.std.specs.Prelude.{Result, Ok, Err}
@@ -75,9 +75,14 @@ pub shut_endwhile : (d cur : ℕ) (z : Sizes) (t : List ℕ) (at : ℕ) {p : ℕ
 shut_endwhile d cur z t at e = endwhile_whole z t _ (shut d cur z t 0x24 at e)
 
 -- one function read, one fewer left
-pub functions_next : (z : Sizes) (t : List ℕ) (i at p : ℕ) → i < z.functions → function_at z t i at ≡ Ok p → functions_at z t (z.functions - i) at ≡ functions_at z t (z.functions - (i + 1)) p
+pub functions_is : (z : Sizes) (t : List ℕ) (n at : ℕ) → (n ≡ 0 → ⊥) → functions_at z t n at ≡ then (function_at z t (z.functions - n) at) (functions_at z t (n - 1))
 unfolding functions_at
+functions_is z t zero at h = absurd (h refl)
+functions_is z t (suc n) at h = rw sub-one
+
+-- .. where i were read before
+pub functions_next : (z : Sizes) (t : List ℕ) (i at p : ℕ) → i < z.functions → function_at z t i at ≡ Ok p → functions_at z t (z.functions - i) at ≡ functions_at z t (z.functions - (i + 1)) p
 functions_next z t i at p l e =
-    let m : z.functions - i ≡ suc (z.functions - (i + 1)) = omega arith in
-    let k : z.functions - suc (z.functions - (i + 1)) ≡ i = omega arith in
-    rw (m, k, e) refl
+    let k : z.functions - (z.functions - i) ≡ i = omega arith in
+    let m : z.functions - i - 1 ≡ z.functions - (i + 1) = omega arith in
+    functions_is z t (z.functions - i) at (λ q. omega arith) ∙ rw (k, e, m) refl

@@ -29,10 +29,12 @@ use Rattle.model.specs.declared.Sizes.{Sizes}
 use Rattle.model.specs.declared.Packed.{Packed}
 use Rattle.model.specs.declared.Record.{Record}
 use Rattle.model.specs.declared.Record.TheVariants.{Else, Endif, Endwhile, Return}
+use Rattle.model.specs.declared.Walked.{Walked}
 use Rattle.format.specs.Format.{Decoded, decode_at}
 use Rattle.format.specs.Laws.{good}
 use Rattle.format.specs.Layout.{record_from, record_of, in_of, out_of, start_of}
-use Rattle.typing.specs.Envs.{Fit}
+use Rattle.typing.specs.declared.Walk.{Walk}
+use Rattle.typing.specs.Envs.{view_env, Fit}
 use Rattle.typing.specs.Walks as walks
 use Rattle.typing.specs.Bounds as bounds
 use Rattle.typing.specs.declared.walks.ReadTable.{ReadTable}
@@ -40,6 +42,14 @@ use Rattle.typing.specs.declared.walks.ReadTable.{ReadTable}
 -- what a `?` hands on
 pub handed : {A : Type 0} (r : Result A Refusal) (e : Refusal) → IsErrAnd r (λ (y : Refusal). y ≡ e) → r ≡ Err e
 handed r e h = let p = err_from_is_err_and r h in p.1 ∙ ap (λ (y : Refusal). Err y) p.2
+
+-- what was walked, by where it came
+pub arrived : (w : Walk) {x : Walking Env} {to : Walked} → walks.view_walk (Ok w) ≡ x → w.to ≡ to → x ≡ walks.going to (view_env w.env)
+arrived w h e = sym h ∙ ap (λ (to : Walked). walks.going to (view_env w.env)) e
+
+-- .. and where it ended, by the fault
+pub arrived_at_fault : {e : Refusal} {x : Walking Env} → walks.view_walk (Err e) ≡ x → x ≡ Halt e.fault e.place
+arrived_at_fault h = sym h
 
 -- entering a block
 pub guarded_fit : (z : Sizes) (E : Env) (q : ℕ) (s : Bool) {F : Env} → Fit z E → F ≡ guarded E q s → Fit z F
@@ -58,6 +68,44 @@ closes i (inl (n, e)) = subst Closes (sym e) tt
 closes i (inr (inl e)) = subst Closes (sym e) tt
 closes i (inr (inr (inl (w, e)))) = subst Closes (sym e) tt
 closes i (inr (inr (inr e))) = subst Closes (sym e) tt
+
+module _ (z : Sizes) (t : List ℕ) where
+  -- a record by its kind
+  pub record_is : (d at : ℕ) (E : Env) {i : Record} → record_of z t at ≡ i
+      → instr_with (walks.table z t) (typing (walks.table z t)) (typing_tests (walks.table z t)) (inside (walks.table z t) (typing (walks.table z t)) (typing_tests (walks.table z t)) (walks.size z t) d at) i at E ≡ walks.record_walk z t d at E
+  record_is d at E e =
+      ap (λ (i : Record). instr_with (walks.table z t) (typing (walks.table z t)) (typing_tests (walks.table z t)) (inside (walks.table z t) (typing (walks.table z t)) (typing_tests (walks.table z t)) (walks.size z t) d at) i at E) (sym e)
+      ∙ sym (instr_at_lem (walks.table z t) (typing (walks.table z t)) (typing_tests (walks.table z t)) (walks.size z t) d at E)
+
+  -- where a block is shut
+  pub shut_near : (d k at : ℕ) (E : Env) {p : ℕ} {F : Env} → Reached p F ≡ walks.block_walk z t d k at E → p ≤ max at (length t + 4 * d)
+  shut_near d k at E e = (subst (bounds.OkBlock z t d at) (sym e) (bounds.block_walk_ok z t d k at E)).1
+
+  -- a turn of the loop of a block, k bounding the records from `at` on
+  pub next_ok : (d at : ℕ) (E : Env) {n : ℕ} {F : Env} → Onward n F ≡ walks.record_walk z t d at E → (at < length t) × (at < n) × (n ≤ length t + 4 * d)
+  next_ok d at E e = subst (bounds.Ok z t d at) (sym e) (bounds.record_ok z t d at E)
+
+  pub turn_next : (d k at : ℕ) (E : Env) {n : ℕ} {F : Env} → Onward n F ≡ walks.record_walk z t d at E → length t - at < k
+      → (j : ℕ) × (length t - n < j) × (walks.block_walk z t d k at E ≡ walks.block_walk z t d j n F)
+  unfolding type_block
+  turn_next d zero at E e l = absurd (omega arith)
+  turn_next d (suc k) at E e l = let o = next_ok d at E e in (k, omega (arith, o.0, o.1), ap (λ (w : Walking Env). on_next w (walks.block_walk z t d k)) (sym e))
+
+  pub turn_shut : (d k at : ℕ) (E : Env) {p : ℕ} {F : Env} → Closed p F ≡ walks.record_walk z t d at E → length t - at < k → walks.block_walk z t d k at E ≡ Reached p F
+  unfolding type_block
+  turn_shut d zero at E e l = absurd (omega arith)
+  turn_shut d (suc k) at E e l = ap (λ (w : Walking Env). on_next w (walks.block_walk z t d k)) (sym e)
+
+  pub turn_fault : (d k at : ℕ) (E : Env) {n : Fault} {p : ℕ} → Halt n p ≡ walks.record_walk z t d at E → length t - at < k → walks.block_walk z t d k at E ≡ Failed n p
+  unfolding type_block
+  turn_fault d zero at E e l = absurd (omega arith)
+  turn_fault d (suc k) at E e l = ap (λ (w : Walking Env). on_next w (walks.block_walk z t d k)) (sym e)
+
+  -- a function, once its block is walked
+  pub function_is : (g : ℕ) {s : ℕ} {E : Env} {w : Ending Env} → s ≡ start_of z t g → E ≡ env_of (in_of z t g) → w ≡ walks.block_walk z t 16 (walks.size z t) s E
+      → on_shut Failed w (λ p F. pick (within z.registers z.arrays F (env_of (out_of z t g))) (Reached p F) (Failed ReturnDoesNotFit p)) ≡ walks.function_walk z t g
+  unfolding type_function
+  function_is g p q e = rw (e, p, q) refl
 
 module _ (r : ReadTable) where
   abbrev z : Sizes
@@ -78,15 +126,8 @@ module _ (r : ReadTable) where
   abbrev pub block : ℕ → ℕ → Env → Ending Env
   block d at E = walks.block_walk z t d size at E
 
-  -- a record by its kind
-  abbrev instr : ℕ → ℕ → Record → Env → Walking Env
-  instr d at i E = instr_with T (typing T) (typing_tests T) (inside T (typing T) (typing_tests T) size d at) i at E
-
-  pub record_is : (d at : ℕ) (E : Env) {i : Record} → record_of z t at ≡ i → instr d at i E ≡ one d at E
-  record_is d at E e = ap (λ (i : Record). instr d at i E) (sym e) ∙ sym (instr_at_lem T (typing T) (typing_tests T) size d at E)
-
   pub closed_at : (d at : ℕ) (E : Env) → Closes (record_of z t at) → Closed at E ≡ one d at E
-  closed_at d at E h = sym (shut_at T (typing T) (typing_tests T) (record_of z t at) (inside T (typing T) (typing_tests T) size d at) at E h) ∙ record_is d at E refl
+  closed_at d at E h = sym (shut_at T (typing T) (typing_tests T) (record_of z t at) (inside T (typing T) (typing_tests T) size d at) at E h) ∙ record_is z t d at E refl
 
   -- the record at `at`, and where the next one is due, as the walk takes them: RETURN where none can be read
   module _ (at : ℕ) {d : Decoded} {x : Record × ℕ} (p : d ≡ decode_at z t at) (e : x ≡ result_unwrap_or d (Return, at)) where
@@ -144,43 +185,11 @@ module _ (r : ReadTable) where
   pub next_fit : (d at : ℕ) (E : Env) {n : ℕ} {F : Env} → Fit z E → Onward n F ≡ one d at E → Fit z F
   next_fit d at E f e = subst (Where (Fit z)) (sym e) (record_whole T (λ g l. (r.signed g l).1) d size at E f)
 
+  pub walk_fit : (d k at : ℕ) (E : Env) {x : Ending Env} → Fit z E → x ≡ walks.block_walk z t d k at E → WhereEnds (Fit z) x
+  walk_fit d k at E f e = subst (WhereEnds (Fit z)) (sym e) (block_whole T (λ g l. (r.signed g l).1) d size k at E f)
+
   pub block_fit : (d at : ℕ) (E : Env) {p : ℕ} {F : Env} → Fit z E → Reached p F ≡ block d at E → Fit z F
-  block_fit d at E f e = subst (WhereEnds (Fit z)) (sym e) (block_whole T (λ g l. (r.signed g l).1) d size size at E f)
-
-  -- where a block is shut
-  pub shut_near : (d at : ℕ) (E : Env) {p : ℕ} {F : Env} → Reached p F ≡ block d at E → p ≤ max at (32768 + 4 * d)
-  shut_near d at E e =
-      let l = r.short in
-      let o = (subst (bounds.OkBlock z t d at) (sym e) (bounds.block_walk_ok z t d size at E)).1 in
-      omega (arith, o, l)
-
-  -- a turn of the loop of a block, k bounding the records from `at` on
-  pub next_ok : (d at : ℕ) (E : Env) {n : ℕ} {F : Env} → Onward n F ≡ one d at E → (at < length t) × (at < n)
-  next_ok d at E e = let o = subst (bounds.Ok z t d at) (sym e) (bounds.record_ok z t d at E) in (o.0, o.1)
-
-  abbrev rest : ℕ → ℕ → ℕ → Env → Ending Env
-  rest d k at E = walks.block_walk z t d k at E
-
-  pub turn_next : (d k at : ℕ) (E : Env) {n : ℕ} {F : Env} → Onward n F ≡ one d at E → length t - at < k → (j : ℕ) × (length t - n < j) × (rest d k at E ≡ rest d j n F)
-  unfolding type_block
-  turn_next d zero at E e l = absurd (omega arith)
-  turn_next d (suc k) at E e l = let o = next_ok d at E e in (k, omega (arith, o.0, o.1), ap (λ (w : Walking Env). on_next w (rest d k)) (sym e))
-
-  pub turn_shut : (d k at : ℕ) (E : Env) {p : ℕ} {F : Env} → Closed p F ≡ one d at E → length t - at < k → rest d k at E ≡ Reached p F
-  unfolding type_block
-  turn_shut d zero at E e l = absurd (omega arith)
-  turn_shut d (suc k) at E e l = ap (λ (w : Walking Env). on_next w (rest d k)) (sym e)
-
-  pub turn_fault : (d k at : ℕ) (E : Env) {n : Fault} {p : ℕ} → Halt n p ≡ one d at E → length t - at < k → rest d k at E ≡ Failed n p
-  unfolding type_block
-  turn_fault d zero at E e l = absurd (omega arith)
-  turn_fault d (suc k) at E e l = ap (λ (w : Walking Env). on_next w (rest d k)) (sym e)
-
-  -- a function, once its block is walked
-  pub function_is : (g : ℕ) {s : ℕ} {E : Env} {w : Ending Env} → s ≡ start_of z t g → E ≡ env_of (in_of z t g) → w ≡ block 16 s E
-      → on_shut Failed w (λ p F. pick (within z.registers z.arrays F (env_of (out_of z t g))) (Reached p F) (Failed ReturnDoesNotFit p)) ≡ walks.function_walk z t g
-  unfolding type_function
-  function_is g p q e = rw (e, p, q) refl
+  block_fit d at E f e = walk_fit d size at E f e
 
   pub signed_in : (g : ℕ) {E : Env} → g < z.functions → E ≡ env_of (in_of z t g) → Fit z E
   signed_in g l e = subst (Fit z) (sym e) (r.signed g l).0

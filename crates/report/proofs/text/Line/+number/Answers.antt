@@ -10,4 +10,4 @@ returns-clause-adds t c = elim c.if-n-ge10.branch [
 ]
 
 pub returns-clause-short : goal.returns-clause-short
-returns-clause-short t c = omega (arith, decimal_few c.args.n (omega arith), (returns-clause-adds t c).counted)
+returns-clause-short t c = omega (arith, decimal_few c.args.n, (returns-clause-adds t c).counted)

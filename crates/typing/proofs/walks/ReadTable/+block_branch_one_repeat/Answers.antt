@@ -17,7 +17,7 @@ use Rattle.model.proofs.theory.Whole.{no_threes, packed_whole}
 use Rattle.format.specs.Layout.{record_fits, record_keeps}
 use Rattle.typing.specs.Walks.{view_walk, view_end, simple_walk, call_walk}
 use Rattle.typing.specs.Envs.{view_env}
-use Rattle.typing.proofs.Turns.{handed, guarded_fit, within_packed, closes, closed_at, record_is, kind_at, next_at, if_first, if_second, while_body, next_fit, block_fit, shut_near, next_ok, turn_next, turn_shut, turn_fault}
+use Rattle.typing.proofs.Turns.{handed, arrived, arrived_at_fault, guarded_fit, within_packed, closes, closed_at, record_is, kind_at, next_at, if_first, if_second, while_body, next_fit, block_fit, shut_near, next_ok, turn_next, turn_shut, turn_fault}
 use Rattle.typing.proofs.walks.ReadTable.+block_branch_one_repeat.Goals as goal
 
 pub block-loop-w-init : goal.block-loop-w-init
@@ -26,44 +26,50 @@ block-loop-w-init m c = (suc (length c.args.self.now.table.bytes.now), omega ari
 pub block-loop-w-smaller : goal.block-loop-w-smaller
 block-loop-w-smaller m c =
     let L = c.loop-w in
-    let e = simp c.in-Next.is at c.in_ok-w.ensures in
-    let o = next_ok c.args.self.now c.args.depth L.at (view_env L.e) e in
+    let t = c.args.self.now.table in
+    let e = sym (arrived _ c.in_ok-w.ensures c.in-Next.is) in
+    let o = next_ok t.sizes t.bytes.now c.args.depth L.at (view_env L.e) e in
     omega (arith, o.0, o.1)
 
 pub block-loop-w-preserved : goal.block-loop-w-preserved
 block-loop-w-preserved m c =
     let a = c.args in
     let L = c.loop-w in
-    let e = simp c.in-Next.is at c.in_ok-w.ensures in
-    let n = turn_next a.self.now a.depth L.invariant.0 L.at (view_env L.e) e L.invariant.1 in
+    let t = a.self.now.table in
+    let e = sym (arrived _ c.in_ok-w.ensures c.in-Next.is) in
+    let n = turn_next t.sizes t.bytes.now a.depth L.invariant.0 L.at (view_env L.e) e L.invariant.1 in
     (n.0, n.1, next_fit a.self.now a.depth L.at (view_env L.e) L.invariant.2 e, L.invariant.3 ∙ n.2)
 
 pub block-returns-in-Shut : goal.block-returns-in-Shut
 block-returns-in-Shut m c =
     let L = c.loop-w in
-    let e = simp c.in-Shut.is at c.in_ok-w.ensures in
-    sym (L.invariant.3 ∙ turn_shut c.args.self.now c.args.depth L.invariant.0 L.at (view_env L.e) e L.invariant.1)
+    let t = c.args.self.now.table in
+    let e = sym (arrived _ c.in_ok-w.ensures c.in-Shut.is) in
+    sym (L.invariant.3 ∙ turn_shut t.sizes t.bytes.now c.args.depth L.invariant.0 L.at (view_env L.e) e L.invariant.1)
 
 pub block-returns-in_err-w : goal.block-returns-in_err-w
 block-returns-in_err-w m c =
     let L = c.loop-w in
+    let t = c.args.self.now.table in
     ap view_end (handed _ c.in_err-w.field-0.0 c.from_residual.ensures.1)
-    ∙ sym (L.invariant.3 ∙ turn_fault c.args.self.now c.args.depth L.invariant.0 L.at (view_env L.e) c.in_err-w.ensures L.invariant.1)
+    ∙ sym (L.invariant.3 ∙ turn_fault t.sizes t.bytes.now c.args.depth L.invariant.0 L.at (view_env L.e) (sym (arrived_at_fault c.in_err-w.ensures)) L.invariant.1)
 
 pub branch-overflow_add-first : goal.branch-overflow_add-first
 branch-overflow_add-first m c =
     let a = c.args in
+    let t = a.self.now.table in
     let l = a.self.now.short in
-    let s = shut_near a.self.now (a.depth - 1) (a.at + 4) _ c.in_ok-first.ensures in
+    let s = shut_near t.sizes t.bytes.now (a.depth - 1) _ (a.at + 4) _ c.in_ok-first.ensures in
     let u : c.in_ok-first.first.place ≤ 200000 = omega (arith, s, l) in
     search rules
 
 pub branch-overflow_add-result : goal.branch-overflow_add-result
 branch-overflow_add-result m c =
     let a = c.args in
+    let t = a.self.now.table in
     let l = a.self.now.short in
-    let s = shut_near a.self.now (a.depth - 1) (a.at + 4) _ c.in_ok-first.ensures in
-    let n = shut_near a.self.now (a.depth - 1) (c.in_ok-first.first.place + 3) _ c.in_ok-second.ensures in
+    let s = shut_near t.sizes t.bytes.now (a.depth - 1) _ (a.at + 4) _ c.in_ok-first.ensures in
+    let n = shut_near t.sizes t.bytes.now (a.depth - 1) _ (c.in_ok-first.first.place + 3) _ c.in_ok-second.ensures in
     let u : c.in_ok-second.second.place ≤ 300000 = omega (arith, s, n, l) in
     search rules
 
@@ -98,8 +104,9 @@ branch-returns m c =
 pub repeat-overflow_add-result : goal.repeat-overflow_add-result
 repeat-overflow_add-result m c =
     let a = c.args in
+    let t = a.self.now.table in
     let l = a.self.now.short in
-    let s = shut_near a.self.now (a.depth - 1) (a.at + 11) _ c.in_ok-body.ensures in
+    let s = shut_near t.sizes t.bytes.now (a.depth - 1) _ (a.at + 11) _ c.in_ok-body.ensures in
     let u : c.in_ok-body.body.place ≤ 200000 = omega (arith, s, l) in
     search rules
 
@@ -160,28 +167,32 @@ one-repeat-requires m c =
 pub one-returns-in-Do : goal.one-returns-in-Do
 one-returns-in-Do m c =
     let a = c.args in
+    let t = a.self.now.table in
     let i = kind_at a.self.now a.at c.decode.ensures c.unwrap_or-record.ensures c.in-Do.is in
     let n = next_at a.self.now a.at c.decode.ensures c.unwrap_or-record.ensures c.in-Do.is (λ x. x) in
-    c.simple.ensures ∙ ap (λ (n : ℕ). simple_walk a.self.now.table.sizes c.in-Do.s a.at n (view_env a.e)) n.0 ∙ record_is a.self.now a.depth a.at (view_env a.e) i
+    c.simple.ensures ∙ ap (λ (n : ℕ). simple_walk a.self.now.table.sizes c.in-Do.s a.at n (view_env a.e)) n.0 ∙ record_is t.sizes t.bytes.now a.depth a.at (view_env a.e) i
 
 pub one-returns-in-Call : goal.one-returns-in-Call
 one-returns-in-Call m c =
     let a = c.args in
+    let t = a.self.now.table in
     let i = kind_at a.self.now a.at c.decode.ensures c.unwrap_or-record.ensures c.in-Call.is in
     let n = next_at a.self.now a.at c.decode.ensures c.unwrap_or-record.ensures c.in-Call.is (λ x. x) in
     c.call.ensures
     ∙ ap (λ (n : ℕ). call_walk a.self.now.table.sizes a.self.now.table.bytes.now c.in-Call.function c.in-Call.mark a.at n (view_env a.e)) n.0
-    ∙ record_is a.self.now a.depth a.at (view_env a.e) i
+    ∙ record_is t.sizes t.bytes.now a.depth a.at (view_env a.e) i
 
 pub one-returns-in-If : goal.one-returns-in-If
 one-returns-in-If m c =
     let a = c.args in
-    c.branch-self.ensures ∙ record_is a.self.now a.depth a.at (view_env a.e) (kind_at a.self.now a.at c.decode.ensures c.unwrap_or-record.ensures c.in-If.is)
+    let t = a.self.now.table in
+    c.branch-self.ensures ∙ record_is t.sizes t.bytes.now a.depth a.at (view_env a.e) (kind_at a.self.now a.at c.decode.ensures c.unwrap_or-record.ensures c.in-If.is)
 
 pub one-returns-in-While : goal.one-returns-in-While
 one-returns-in-While m c =
     let a = c.args in
-    c.repeat.ensures ∙ record_is a.self.now a.depth a.at (view_env a.e) (kind_at a.self.now a.at c.decode.ensures c.unwrap_or-record.ensures c.in-While.is)
+    let t = a.self.now.table in
+    c.repeat.ensures ∙ record_is t.sizes t.bytes.now a.depth a.at (view_env a.e) (kind_at a.self.now a.at c.decode.ensures c.unwrap_or-record.ensures c.in-While.is)
 
 pub one-returns-in-Else : goal.one-returns-in-Else
 one-returns-in-Else m c =

@@ -13,7 +13,8 @@ block-requires c = signed_in c.args.self.now c.args.g c.requires (c.from-into.en
 
 pub returns-in_err-end : goal.returns-in_err-end
 returns-in_err-end c =
-    let b = function_is c.args.self.now c.args.g c.start_of.ensures.0 (c.from-into.ensures ∙ ap env_of c.in_of.ensures) c.in_err-end.ensures in
+    let t = c.args.self.now.table in
+    let b = function_is t.sizes t.bytes.now c.args.g c.start_of.ensures.0 (c.from-into.ensures ∙ ap env_of c.in_of.ensures) c.in_err-end.ensures in
     handed _ c.in_err-end.field-0.0 c.from_residual.ensures.1 ∙ ap (λ (w : Ending Env). on_pass w (Ok tt)) b
 
 pub returns-then-not-within : goal.returns-then-not-within
@@ -22,7 +23,7 @@ returns-then-not-within c =
     let into = c.from-into.ensures ∙ ap env_of c.in_of.ensures in
     let f = block_fit r 16 _ _ (signed_in r c.args.g c.requires into) c.in_ok-end.ensures in
     let v = within_packed r.table.sizes (view_env c.in_ok-end.end.env) _ f (r.signed c.args.g c.requires).1 (c.from-out.ensures ∙ ap env_of c.out_of.ensures) c.within.ensures c.if-not-within.true in
-    rw (sym (function_is r c.args.g c.start_of.ensures.0 into c.in_ok-end.ensures), v, c.at.ensures)
+    rw (sym (function_is r.table.sizes r.table.bytes.now c.args.g c.start_of.ensures.0 into c.in_ok-end.ensures), v, c.at.ensures)
 
 pub returns : goal.returns
 returns c =
@@ -30,4 +31,4 @@ returns c =
     let into = c.from-into.ensures ∙ ap env_of c.in_of.ensures in
     let f = block_fit r 16 _ _ (signed_in r c.args.g c.requires into) c.in_ok-end.ensures in
     let v = within_packed r.table.sizes (view_env c.in_ok-end.end.env) _ f (r.signed c.args.g c.requires).1 (c.from-out.ensures ∙ ap env_of c.out_of.ensures) c.within.ensures c.if-not-within.false in
-    rw (sym (function_is r c.args.g c.start_of.ensures.0 into c.in_ok-end.ensures), v)
+    rw (sym (function_is r.table.sizes r.table.bytes.now c.args.g c.start_of.ensures.0 into c.in_ok-end.ensures), v)
