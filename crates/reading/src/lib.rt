@@ -1,7 +1,9 @@
 // Document 01, "Numbers given back", 1 to 9: the forward reading of a table.
 #![tactic(auto)]
 
-ghost use Rattle.std.specs.Prelude.{◌≡◌};
+ghost use Rattle.std.specs.Prelude.{◌≡◌, ℕ, Ok};
+ghost use Rattle.model.specs.Numbers.{then};
+ghost use Rattle.format.specs.Layout.{sizes_of};
 ghost use Rattle.reading.specs.Reading.{read_at, parts_at};
 
 use layout::Table;
@@ -17,6 +19,15 @@ pub fn read(t: &[u8]) -> Result<Sizes, Refusal>
     if 32768 < t.len() {
         return Err(Fault::TableTooLong.at(0));
     }
+    all_parts(t)
+}
+
+// All that is read of a table that is not too long. (A function of its own, and called: so one that is too long costs
+// the test alone.)
+#[inline(never)]
+fn all_parts(t: &[u8]) -> Result<Sizes, Refusal>
+    ensures { result ≡ then (parts_at (sizes_of t.now) t.now) (λ (_ : ℕ). Ok (sizes_of t.now)) }
+{
     let table = Table {
         bytes: t,
         sizes: layout::sizes_of(t),
