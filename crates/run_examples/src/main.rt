@@ -26,11 +26,11 @@ fn words<'a>(part: &[u8], space: &'a mut [u32]) -> Option<&'a mut [u32]> {
 }
 
 // False where a case has more than there is space for here, or half a word.
-fn run(rt: &impl Print, case: &Case) -> bool {
+fn run(case: &Case) -> bool {
     let mut registers = [0; 16];
     let mut memory = [0; 512];
     let mut observations = [255; 64];
-    show::name(rt, case.name);
+    show::name(case.name);
     let (Some(registers), Some(memory), Some(observations)) = (
         words(case.registers, &mut registers),
         words(case.memory, &mut memory),
@@ -38,28 +38,28 @@ fn run(rt: &impl Print, case: &Case) -> bool {
     ) else {
         return false;
     };
-    show::run(rt, case.table, case.list, registers, memory, observations);
+    show::run(case.table, case.list, registers, memory, observations);
     true
 }
 
-fn cases(rt: &impl Print, mut s: &[u8]) {
+fn cases(mut s: &[u8]) {
     while !s.is_empty() {
         let Some((case, rest)) = Case::first(s) else {
-            return show::no_case(rt);
+            return show::no_case();
         };
-        if !run(rt, &case) {
-            return show::no_case(rt);
+        if !run(&case) {
+            return show::no_case();
         }
         s = rest;
     }
 }
 
-fn main(rt: HostRuntime) {
+fn main() {
     let mut input = [0; 262144];
     let n = io::read_full(0, &mut input);
     if n < input.len() {
-        cases(&rt, &input[..n]);
+        cases(&input[..n]);
     } else {
-        show::no_case(&rt);
+        show::no_case();
     }
 }

@@ -2,4 +2,4 @@ use Rattle.std.proofs.Common.{length}
 use Rattle.run_examples.proofs.cases.Given as goal
 
 abbrev pub decreases-loop-s : goal.decreases-loop-s
-decreases-loop-s g l = length l.s
+decreases-loop-s l = length l.s
