@@ -97,6 +97,7 @@ impl Kind {
 }
 
 // The length of a record of code, the kind byte counted; 0 where no code has that kind.
+#[tactic(auto, unfolding(format::specs::Format::code_length))]
 pub fn code_length(kind: u8) -> usize
     ensures { (result ≡ code_length kind) × (result < 12) }
 {
